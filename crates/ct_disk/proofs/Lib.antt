@@ -1,0 +1,5 @@
+pub mod Histories
+pub mod Moments
+pub mod Overlays
+pub mod Ranges
+pub mod Torn
