@@ -1,0 +1,16 @@
+//! The real outside as the layers below see it: files as disks, a reader as a source, a writer as a
+//! sink. What a file holds, and what a stream gives or takes, no contract says; that is trusted.
+#![tactic(auto)]
+
+mod counts;
+mod file_disk;
+mod read_source;
+mod store_files;
+#[cfg(test)]
+mod tests;
+mod write_sink;
+
+pub use file_disk::FileDisk;
+pub use read_source::ReadSource;
+pub use store_files::{OpenError, StoreFiles, make_folder, open_store};
+pub use write_sink::WriteSink;

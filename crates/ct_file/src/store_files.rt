@@ -1,0 +1,88 @@
+//! The two files of a store, in its folder.
+//! Their lock keeps a second program out.
+
+ghost use Rattle.std.specs.Prelude.{IfOk};
+ghost use Rattle.ct_file.specs.Files.{IsFresh};
+
+use crate::file_disk::FileDisk;
+use std::alloc::{AllocError, Global};
+use std::fs::File;
+use std::rt::Files;
+use std::{fs, io};
+use thiserror::Error;
+
+/// Why a folder or its files could not be had.
+#[derive(Clone, Copy, Debug, PartialEq, Eq, Error)]
+pub enum OpenError {
+    /// A file or the folder could not be opened, made or locked.
+    #[error("a file could not be opened, made or locked")]
+    Device,
+    /// The call could not have the memory that it asked for.
+    #[error("out of memory")]
+    Memory,
+}
+
+impl From<io::Error> for OpenError {
+    fn from(_error: io::Error) -> OpenError {
+        OpenError::Device
+    }
+}
+
+impl From<AllocError> for OpenError {
+    fn from(_refusal: AllocError) -> OpenError {
+        OpenError::Memory
+    }
+}
+
+/// The devices of a store.
+#[derive(Drop)]
+pub struct StoreFiles {
+    pub pages: FileDisk,
+    pub log: FileDisk,
+}
+
+/// Makes the folder, whose parent is to be there, unless there is one.
+pub fn make_folder<R: Files>(files: &R, folder: &str) -> Result<(), OpenError> {
+    match fs::create_dir(files, folder) {
+        Err(error) if error.kind() != io::ErrorKind::AlreadyExists => Err(OpenError::Device),
+        _ => Ok(()),
+    }
+}
+
+/// Opens the files `pages.ct` and `log.ct` of a folder, and makes those that are missing, empty.
+/// The log stays locked while it is open, so that a second program on the folder is refused.
+pub fn open_store<R: Files<File = File>>(
+    files: &R,
+    alloc: Global,
+    folder: &str,
+) -> Result<StoreFiles, OpenError>
+    ensures pages { IfOk result (λ store. IsFresh store.pages) }
+    ensures log { IfOk result (λ store. IsFresh store.log) }
+{
+    let log = open_file(files, alloc, folder, "log.ct")?;
+    if log.try_lock().is_err() {
+        return Err(OpenError::Device);
+    }
+    let pages = open_file(files, alloc, folder, "pages.ct")?;
+    File::open(files, folder)?.sync_all()?;
+    Ok(StoreFiles {
+        pages: FileDisk::new(pages)?,
+        log: FileDisk::new(log)?,
+    })
+}
+
+/// Opens a file of the folder for reading and writing, and makes it where it is missing.
+fn open_file<R: Files<File = File>>(
+    files: &R,
+    alloc: Global,
+    folder: &str,
+    name: &str,
+) -> Result<File, OpenError> {
+    let path = format!(in alloc; "{folder}/{name}")?;
+    let file = File::options()
+        .read(true)
+        .write(true)
+        .create(true)
+        .open(files, path.as_str())?;
+    Ok(file)
+}
