@@ -1,0 +1,10 @@
+pub mod Tests
+pub mod Rows
+pub mod States
+pub mod Keys
+pub mod Room
+pub mod Order
+pub mod Histories
+pub mod Undo
+pub mod Allowed
+pub mod Pairs

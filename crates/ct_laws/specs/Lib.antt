@@ -1,0 +1,4 @@
+pub mod Allowed
+pub mod Examples
+pub mod Cut
+pub mod Shares
