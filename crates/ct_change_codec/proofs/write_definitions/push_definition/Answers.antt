@@ -1,0 +1,13 @@
+use Rattle.std.proofs.lemmas.Result.{on_err_weaker}
+use Rattle.ct_codec.proofs.Writes.{KeepsFront-after}
+use Rattle.ct_change_codec.proofs.write_definitions.push_definition.Goals as goal
+
+pub returns-clause-err : goal.returns-clause-err
+returns-clause-err c =
+    let new = c.push_indexes.new.into.items in
+    let named = c.write_sized_u8.new.into.items in
+    let limited = c.push_kind.new.into.items in
+    let counted = c.write_u8.new.into.items in
+    on_err_weaker c.push_indexes.result
+    (λ keeps. KeepsFront-after c.args.into.now.items _ named new c.in_ok-write_sized_u8.ensures.ok (KeepsFront-after named _ limited new c.in_ok-push_kind.ensures.ok (KeepsFront-after limited _ counted new c.in_ok-write_u8.ensures.ok keeps)))
+    c.push_indexes.ensures.err
