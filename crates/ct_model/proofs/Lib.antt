@@ -1,0 +1,4 @@
+pub mod Edits
+pub mod KeysRead
+pub mod FittingFiles
+pub mod FreeNumbers

@@ -1,0 +1,30 @@
+-- What the code must know of a file to take keys from its images.
+use Rattle.std.specs.Prelude.{ℕ, length, List, Bool, ◌&&◌, nat_le, Option}
+use Rattle.std.specs.List.{list_all}
+use Rattle.ct_definitions.specs.declared.definition.IndexDef.{IndexDef}
+use Rattle.ct_definitions.specs.declared.definition.TheConstants.{LONGEST_KEY}
+use Rattle.ct_definitions.specs.declared.store.Row.{Row}
+use Rattle.ct_definitions.specs.declared.store.File.{File}
+use Rattle.ct_definitions.specs.Validity.{is_valid_seg, key_len, is_valid}
+use Rattle.ct_definitions.specs.Room.{has_fitting_len}
+use Rattle.ct_definitions.specs.Changes.{passes}
+
+-- whether the segments of the index lie in every image of the length, and its keys are not too long
+abbrev pub reads_keys : IndexDef → ℕ → Bool
+reads_keys index len = list_all (is_valid_seg len) index.segs && nat_le (key_len index.segs) LONGEST_KEY
+
+-- whether they lie in the images of the records
+abbrev pub reads_all_keys : IndexDef → List Row → Bool
+reads_all_keys index rows = list_all (λ row. reads_keys index (length row.image)) rows
+
+-- a file whose definition is valid and whose images have lengths that it allows
+abbrev pub is_fitting : File → Bool
+is_fitting file = is_valid file.def && list_all (λ row. has_fitting_len file.def.kind (length row.image)) file.records
+
+-- files that are each so
+abbrev pub are_fitting : List File → Bool
+are_fitting files = list_all is_fitting files
+
+-- whether there is a file and it may have an image of the length
+abbrev pub takes_len_in : Option File → ℕ → Bool
+takes_len_in file len = passes file (λ f. has_fitting_len f.def.kind len)

@@ -1,0 +1,25 @@
+//! The plain state of a store, and what changes do to it, exactly as the definitions say.
+//! Each test of the definitions is one function here, which answers what the definition does.
+#![tactic(auto)]
+
+mod change;
+mod keys;
+mod room;
+mod rows;
+mod state;
+mod validity;
+
+pub use change::{InverseFault, Refused, allows, apply, inverse};
+pub use ct_definitions::{
+    BLOCK_ROOM, Bytes, Change, Changes, File, FileDef, IndexDef, Indexes, Kind, LONGEST_IMAGE,
+    LONGEST_KEY, LONGEST_NAME, MOST_FILES, MOST_INDEXES, MOST_SEGMENTS, Made, Mode, Name,
+    RECORD_OVERHEAD, RECORDS_PER_BLOCK, Row, Rows, Seg, Segs, Transaction,
+};
+pub use keys::{has_taken_key, may_stand};
+pub use room::{has_fitting_len, has_room, lowest_free};
+pub use rows::{has_image, image_at, row_at};
+pub use state::{Record, State, file_at, file_named, has_name, index_named};
+pub use validity::{is_name, valid};
+
+#[cfg(test)]
+mod tests;
