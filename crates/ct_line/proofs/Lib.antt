@@ -1,0 +1,4 @@
+pub mod Back
+pub mod NumberWords
+pub mod Places
+pub mod Spelled
