@@ -1,0 +1,6 @@
+pub mod ChunkLaws
+pub mod Flushes
+pub mod Frames
+pub mod Fronts
+pub mod Steps
+pub mod Torn

@@ -1,0 +1,5 @@
+pub mod Chunks
+pub mod Flow
+pub mod Front
+pub mod Log
+pub mod Stages

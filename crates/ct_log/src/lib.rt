@@ -1,0 +1,22 @@
+//! The log device: groups in chunks, each behind a gate that is opened last, so that a crash leaves
+//! a chunk whole or not at all.
+#![tactic(auto)]
+
+mod flow;
+mod flush;
+mod groups;
+mod laws;
+mod log;
+mod make;
+mod moves;
+mod stage;
+
+pub use flow::Flow;
+pub use groups::Groups;
+pub use laws::{chunks_are_determined, log_holds_chunks, text_stands_for_chunks};
+pub use log::Log;
+pub use make::{is_id, make_log, open_gate};
+pub use stage::{FlushAt, Stage};
+
+#[cfg(test)]
+mod tests;
