@@ -1,0 +1,16 @@
+//! The groups of a log, both ways: a commit so far.
+//! `specs/Commit.antt` says how a transaction is spelled, `specs/Groups.antt` how a group is read.
+#![tactic(auto)]
+
+mod group;
+mod laws;
+mod read;
+mod write;
+
+pub use group::Group;
+pub use laws::groups_are_exact;
+pub use read::read_group;
+pub use write::{write_commit, write_group};
+
+#[cfg(test)]
+mod tests;
