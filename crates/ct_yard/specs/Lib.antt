@@ -1,0 +1,4 @@
+pub mod Flushing
+pub mod Machine
+pub mod Writes
+pub mod Yards
