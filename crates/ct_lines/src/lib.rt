@@ -4,6 +4,8 @@
 
 mod held;
 mod split;
+#[cfg(test)]
+mod tests;
 
 pub use held::{Held, LONGEST_LINE};
 pub use split::{first_line, lines_are_parted_by_feeds};
