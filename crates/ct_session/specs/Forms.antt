@@ -1,6 +1,6 @@
 -- The forms of a line that are built so far. Words have the bytes 0x21 to 0x7E without the backslash, and are parted by one space.
-use Rattle.std.specs.Prelude.{ℕ, ◌+◌, ◌-◌, ◌*◌, List, [], ◌∷◌, length, take, drop, fold, position, codes, bytes_eq, Bool, true, false, not, ◌&&◌, ◌||◌, ◌==◌, nat_le, nat_eq, if◌then◌else◌, Option, Some, None, option_map, option_and_then}
-use Rattle.std.specs.List.{list_all, starts_with}
+use Rattle.std.specs.Prelude.{ℕ, ◌+◌, ◌-◌, ◌*◌, List, [], ◌∷◌, length, take, drop, fold, position, codes, bytes_eq, Bool, true, false, not, ◌&&◌, ◌==◌, nat_le, if◌then◌else◌, Option, Some, None}
+use Rattle.std.specs.List.{list_all}
 use Rattle.ct_definitions.specs.Validity.{is_between}
 use Rattle.ct_definitions.specs.declared.definition.Mode.TheVariants.{Reg}
 use Rattle.ct_definitions.specs.declared.definition.Kind.TheVariants.{Fixed}
@@ -119,12 +119,16 @@ first_form (Some form) other = Some form
 abbrev pub form_of : List ℕ → Option Form
 form_of line = first_form (create_of line) (first_form (add_of line) (get_of line))
 
+-- a file of records of one length, with one unique index over bytes as they are
+abbrev pub file_def : List ℕ → ℕ → List ℕ → ℕ → ℕ → FileDef
+file_def file len index at key_len = record { name = file; kind = Fixed len; indexes = record { name = index; unique = true; null = None; segs = record { at = at; len = key_len; mode = Reg; desc = false } ∷ [] } ∷ [] }
+
 -- the index that a request describes
 abbrev pub described_index : Index → IndexDef
 described_index index = record { name = index.name.now; unique = true; null = None; segs = record { at = index.at; len = index.key_len; mode = Reg; desc = false } ∷ [] }
 
 -- what a request asks for
 abbrev pub asked : Request → Form
-asked (Create file len index at key_len) = create (record { name = file.now; kind = Fixed len; indexes = record { name = index.now; unique = true; null = None; segs = record { at = at; len = key_len; mode = Reg; desc = false } ∷ [] } ∷ [] })
+asked (Create file len index at key_len) = create (file_def file.now len index.now at key_len)
 asked (Add file image) = add file.now image.now
 asked (Get file index target) = get file.now index.now target.now

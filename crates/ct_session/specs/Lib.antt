@@ -1,1 +1,4 @@
 pub mod Forms
+pub mod Replies
+pub mod Steps
+pub mod Serving

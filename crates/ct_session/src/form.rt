@@ -17,7 +17,10 @@ pub enum Request<'a> {
         key_len: u16,
     },
     /// A new record.
-    Add { file: &'a [u8], image: &'a [u8] },
+    Add {
+        file: &'a [u8],
+        image: &'a [u8],
+    },
     /// The record whose key is the target.
     Get {
         file: &'a [u8],
