@@ -1,0 +1,72 @@
+-- What serving lines does to the yard, the source and the sink.
+use Rattle.std.specs.Prelude.{◌≡◌, ◌⊎◌, ℕ, List, [], ◌++◌, Bool, Option, Some, Result, Ok, Err}
+use Rattle.std.specs.Io.KnownBytes.{Appends}
+use Rattle.ct_transcript.specs.Transcript.{Answered}
+use Rattle.ct_yard.specs.declared.yard.Yard.{Yard}
+use Rattle.ct_yard.specs.Machine.{Machine}
+use Rattle.ct_yard.specs.Yards.{StandsFor}
+use Rattle.ct_session.specs.Replies.{spelling}
+use Rattle.ct_session.specs.Steps.{Step}
+use Rattle.ct_lines.specs.Lines.{lines_from, lines_of}
+use Rattle.ct_link.specs.Faults.{Rose}
+use Rattle.ct_link.specs.declared.sink.SinkError.{SinkError}
+use Rattle.ct_link.specs.declared.sink.SinkError.TheVariants.{Fault, Memory}
+use Rattle.ct_tool.specs.declared.input.Stop.{Stop}
+use Rattle.ct_tool.specs.declared.input.Stop.TheVariants.{End, Source, Sink, Memory as NoRoom, Long}
+
+-- replies that wait are put: all but those that still wait, or at an error a first part
+abbrev pub Puts : {E : Type 0} → Result Unit E → Option (List ℕ) → Option (List ℕ) → List ℕ → List ℕ → Type 0
+Puts (Ok _) old new waiting now = (part : List ℕ) × Appends old new part × (waiting ≡ part ++ now)
+Puts (Err _) old new waiting now = (part left : List ℕ) × Appends old new part × (waiting ≡ part ++ left)
+
+-- lines are answered; at an error what is left of the replies is lost
+abbrev pub AnsweredBy : {E : Type 0} → Result Unit E → Machine → List (Option (List ℕ)) → Machine → Option (List ℕ) → Option (List ℕ) → List ℕ → List ℕ → Type 0
+AnsweredBy (Ok _) old lines new written now_written waiting now = Answered Step spelling old lines new written now_written waiting now
+AnsweredBy (Err _) old lines new written now_written waiting now = (left : List ℕ) × Answered Step spelling old lines new written now_written waiting left
+
+-- a yard answers lines over a sink
+abbrev pub ServesLines : {L E : Type 0} → Bool → (L → ℕ) → (L → List ℕ) → Result Unit E → Yard L → List (Option (List ℕ)) → Yard L → Option (List ℕ) → Option (List ℕ) → List ℕ → List ℕ → Type 0
+ServesLines tells count_of content result old lines new written now_written waiting now =
+    (id : List ℕ) (machine : Machine) → StandsFor tells count_of content id machine old →
+    (next : Machine) × AnsweredBy result machine lines next written now_written waiting now × StandsFor tells count_of content id next new
+
+-- the lines that were answered when a session's input stopped: all; those that had ended; or, where the sink refused, either
+abbrev pub AreLines : Stop → List ℕ → List (Option (List ℕ)) → Type 0
+AreLines End bytes lines = lines ≡ lines_of bytes
+AreLines Source bytes lines = lines ≡ lines_from (Some []) bytes
+AreLines Long bytes lines = lines ≡ lines_from (Some []) bytes
+AreLines Sink bytes lines = (lines ≡ lines_from (Some []) bytes) ⊎ (lines ≡ lines_of bytes)
+AreLines NoRoom bytes lines = (lines ≡ lines_from (Some []) bytes) ⊎ (lines ≡ lines_of bytes)
+
+-- the replies that were not put: none, unless the sink refused
+abbrev pub IsLeft : Stop → List ℕ → Type 0
+IsLeft End left = left ≡ []
+IsLeft Source left = left ≡ []
+IsLeft Long left = left ≡ []
+IsLeft Sink left = Unit {0}
+IsLeft NoRoom left = Unit {0}
+
+-- whose count of faults rose, source or sink: that of the one that stopped the input, and no other
+abbrev pub HasStopCause : Stop → ℕ → ℕ → ℕ → ℕ → Type 0
+HasStopCause End source source' sink sink' = (source' ≡ source) × (sink' ≡ sink)
+HasStopCause Source source source' sink sink' = Rose source source' × (sink' ≡ sink)
+HasStopCause Long source source' sink sink' = (source' ≡ source) × (sink' ≡ sink)
+HasStopCause Sink source source' sink sink' = (source' ≡ source) × Rose sink sink'
+HasStopCause NoRoom source source' sink sink' = (source' ≡ source) × (sink' ≡ sink)
+
+-- bytes were taken, and the lines that ended in them answered, with nothing waiting
+pub record SoFar {L : Type 0} (tells : Bool) (count_of : L → ℕ) (content : L → List ℕ) (bytes : List ℕ) (old new : Yard L) (taken now_taken written now_written : Option (List ℕ)) : Type 0 where
+  pub took : Appends taken now_taken bytes
+  pub answers : (id : List ℕ) (machine : Machine) → StandsFor tells count_of content id machine old →
+      (next : Machine) × Answered Step spelling machine (lines_from (Some []) bytes) next written now_written [] [] × StandsFor tells count_of content id next new
+
+-- a session's input was served until it stopped
+pub record ServesInput {L : Type 0} (tells : Bool) (count_of : L → ℕ) (content : L → List ℕ) (stop : Stop) (bytes : List ℕ) (old new : Yard L) (taken now_taken written now_written : Option (List ℕ)) : Type 0 where
+  pub took : Appends taken now_taken bytes
+  pub answers : (id : List ℕ) (machine : Machine) → StandsFor tells count_of content id machine old →
+      (next : Machine) × (lines : List (Option (List ℕ))) × (left : List ℕ) × AreLines stop bytes lines × Answered Step spelling machine lines next written now_written [] left × IsLeft stop left × StandsFor tells count_of content id next new
+
+-- how a sink's refusal stops the input
+abbrev pub stop_of : SinkError → Stop
+stop_of Fault = Sink
+stop_of Memory = NoRoom

@@ -1,0 +1,12 @@
+//! The tool: its commands over two devices, an input and an output.
+//! `run_tool` carries the promise of the whole.
+#![tactic(auto)]
+
+mod block;
+mod ended;
+mod exec;
+mod input;
+mod run;
+
+pub use ended::{Cause, Ended};
+pub use run::run_tool;
