@@ -7,6 +7,8 @@ mod ended;
 mod exec;
 mod input;
 mod run;
+#[cfg(test)]
+mod tests;
 
 pub use ended::{Cause, Ended};
 pub use run::run_tool;
