@@ -4,6 +4,8 @@
 
 mod items;
 mod no_memory;
+#[cfg(test)]
+mod tests;
 
 pub use items::Items;
 pub use no_memory::NoMemory;
