@@ -4,6 +4,7 @@ ghost use Rattle.std.specs.Prelude.{◌≡◌, ◌≤◌, ◌+◌, ◌-◌, ◌^
 ghost use Rattle.ct_disk.specs.Disk.{Only, Torn, GoesOn, HasCause};
 ghost use Rattle.ct_log.specs.Front.{zeros, is_id, name_plate, front_with, front};
 
+use crate::head::HEADER_GATE;
 use ct_disk::{Disk, DiskError};
 
 /// A front of 12,288 bytes and the first chunk's gate.
@@ -17,9 +18,6 @@ const ID: u64 = 12;
 
 /// Where the base number stands in the header.
 const BASE: u64 = 28;
-
-/// Where the header's gate stands.
-const HEADER_GATE: u64 = 36;
 
 /// Whether these bytes can be an id: 1 to 16, none of them zero.
 pub fn is_id(id: &[u8]) -> bool
