@@ -1,3 +1,4 @@
+pub mod ByteReads
 pub mod ChunkLaws
 pub mod Flushes
 pub mod Frames

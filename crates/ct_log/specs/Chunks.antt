@@ -1,5 +1,5 @@
 -- The chunks of a log: groups behind a gate, one chunk after another up to a closed gate.
-use Rattle.std.specs.Prelude.{◌≡◌, ◌≢◌, ◌⊎◌, ◌<◌, ◌+◌, ◌-◌, ◌^◌, ℕ, List, [], ◌∷◌, ◌++◌, length, take, drop, All}
+use Rattle.std.specs.Prelude.{◌≡◌, ◌≢◌, ◌⊎◌, ◌<◌, ◌+◌, ◌-◌, ◌^◌, ℕ, min, List, [], ◌∷◌, ◌++◌, length, take, drop, All}
 use Rattle.std.specs.Int.{w32, to_le_bytes}
 
 -- a chunk's length in four bytes, the low byte first
@@ -23,6 +23,10 @@ chunk_body groups = length_bytes (length groups) ++ groups ++ 0 ∷ []
 abbrev pub chunk_size : List ℕ → ℕ
 chunk_size [] = 0
 chunk_size (byte ∷ more) = 5 + length (byte ∷ more)
+
+-- this many bytes behind the end of a log, with the gate that stands before them: none where there are none
+abbrev pub with_gate : ℕ → ℕ
+with_gate n = n + min n 1
 
 -- the body of a chunk that has groups
 abbrev pub framed : List ℕ → List ℕ

@@ -1,5 +1,5 @@
 -- The head of a log as it is read: its header and its two start cells. Bytes past the device's end are missing.
-use Rattle.std.specs.Prelude.{◌≡◌, ◌==◌, ◌&&◌, ◌^◌, ◌+◌, ℕ, Bool, true, false, not, List, [], ◌∷◌, length, take, drop, nat_lt, nat_le, bytes_eq, slice_get, if◌then◌else◌, Option, Some, None, Result, Ok, Err}
+use Rattle.std.specs.Prelude.{◌≡◌, ◌==◌, ◌&&◌, ◌^◌, ℕ, Bool, true, false, not, List, [], ◌∷◌, length, take, drop, nat_lt, nat_le, bytes_eq, slice_get, if◌then◌else◌, Option, Some, None, Result, Ok, Err}
 use Rattle.std.specs.List.{list_all}
 use Rattle.std.specs.Int.{w64, from_le_bytes}
 use Rattle.ct_log.specs.Front.{signature, is_id}
