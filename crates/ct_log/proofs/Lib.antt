@@ -1,5 +1,6 @@
 pub mod ByteReads
 pub mod ChunkLaws
+pub mod ChunkReads
 pub mod Flushes
 pub mod Frames
 pub mod Fronts

@@ -1,7 +1,9 @@
 //! Reading a log, chunk by chunk.
 
-ghost use Rattle.std.specs.Prelude.{◌≡◌, ◌≤◌, ◌+◌, ◌^◌, IsTrue, IfOk, IfSome, IsErrOf, drop};
-ghost use Rattle.ct_disk.specs.Disk.{Rose};
+ghost use Rattle.std.specs.Prelude.{◌≡◌, ◌≤◌, ◌+◌, ◌^◌, ℕ, min, ◌++◌, IsTrue, IfOk, IfSome, IsErrOf, length, take, drop};
+ghost use Rattle.std.specs.Int.{w32, from_le_bytes};
+ghost use Rattle.ct_disk.specs.Disk.{CountsFault, Rose};
+ghost use Rattle.ct_log.specs.Front.{zeros};
 ghost use Rattle.ct_log.specs.Reading.{IsRead, Tells, found_in, log_bytes};
 
 use ct_disk::{Disk, DiskFault};
@@ -11,6 +13,11 @@ use thiserror::Error;
 
 /// Where a device is taken as ending, however long it is.
 const LAST_END: u64 = 1 << 62;
+
+/// A gate and the four bytes of a length behind it.
+const FRAME: u64 = 5;
+
+const OPEN: u8 = 1;
 
 /// An open chunk.
 #[derive(Drop)]
@@ -84,5 +91,71 @@ pub fn read_chunk<L: Disk>(
     ensures later { L.faults device.old ≤ L.faults device.new }
     ensures cause { IsErrOf result LogFault.Fault → Rose (L.faults device.old) (L.faults device.new) }
 {
-    Err(LogFault::Memory)
+    let frame = read_frame(device, place)?;
+    if frame[0] != OPEN {
+        return Ok(None);
+    }
+    let len = groups_len(&frame);
+    let next = place + FRAME + u64::from(len);
+    if log_end(device)? < next {
+        return Err(LogFault::Bad { at: place });
+    }
+    let groups = read_groups(alloc, device, place + FRAME, len as usize)?;
+    Ok(Some(Chunk { groups, next }))
+}
+
+/// Reads a chunk's gate and the length of its groups, with zeros for the bytes that are missing.
+fn read_frame<L: Disk>(device: &mut L, place: u64) -> Result<[u8; 5], DiskFault>
+    requires { place ≤ 2 ^ 62 }
+    ensures frame { IsTrue L.tells → IfOk result (λ frame. frame ≡ take 5 (drop place (log_bytes (L.content device.old)) ++ zeros 5)) }
+    ensures read { IsTrue L.tells → IsRead L.content L.may_leave L.left_since device.old device.new }
+    ensures size { L.size device.new ≡ L.size device.old }
+    ensures reads { L.reads device.new ≤ L.reads device.old + 1 }
+    ensures cause { CountsFault (L.faults device.old) (L.faults device.new) result }
+{
+    let mut frame = [0; 5];
+    let most = (LAST_END - place).min(FRAME) as usize;
+    device.read(place, &mut frame[..most])?;
+    Ok(frame)
+}
+
+/// The length of a chunk's groups.
+fn groups_len(frame: &[u8; 5]) -> u32
+    ensures { result ≡ from_le_bytes w32 (drop 1 frame.now) }
+{
+    u32::from_le_bytes([frame[1], frame[2], frame[3], frame[4]])
+}
+
+/// Where a log on a device ends at most.
+fn log_end<L: Disk>(device: &mut L) -> Result<u64, DiskFault>
+    ensures end { IfOk result (λ end. end ≡ min (L.size device.old) (2 ^ 62)) }
+    ensures read { IsTrue L.tells → IsRead L.content L.may_leave L.left_since device.old device.new }
+    ensures size { L.size device.new ≡ L.size device.old }
+    ensures reads { L.reads device.new ≡ L.reads device.old }
+    ensures cause { CountsFault (L.faults device.old) (L.faults device.new) result }
+{
+    let len = device.len()?;
+    Ok(len.min(LAST_END))
+}
+
+/// Reads bytes that the device has.
+fn read_groups<L: Disk>(
+    alloc: Global,
+    device: &mut L,
+    place: u64,
+    len: usize,
+) -> Result<Items<u8>, LogFault>
+    requires { place + len ≤ min (L.size device.old) (2 ^ 62) }
+    ensures groups { IsTrue L.tells → IfOk result (λ groups. groups ≡ take len (drop place (L.content device.old))) }
+    ensures len { IfOk result (λ groups. length groups ≡ len) }
+    ensures read { IsTrue L.tells → IsRead L.content L.may_leave L.left_since device.old device.new }
+    ensures size { L.size device.new ≡ L.size device.old }
+    ensures reads { L.reads device.new ≤ L.reads device.old + 1 }
+    ensures good { (at : ℕ) → ¬ (IsErrOf result (LogFault.Bad at)) }
+    ensures later { L.faults device.old ≤ L.faults device.new }
+    ensures cause { IsErrOf result LogFault.Fault → Rose (L.faults device.old) (L.faults device.new) }
+{
+    let mut groups = Vec::from_elem(alloc, 0, len)?;
+    device.read(place, groups.as_mut_slice())?;
+    Ok(Items::from_vec(groups))
 }
