@@ -4,5 +4,7 @@ pub mod ChunkReads
 pub mod Flushes
 pub mod Frames
 pub mod Fronts
+pub mod HeadReads
 pub mod Steps
 pub mod Torn
+pub mod Zeros

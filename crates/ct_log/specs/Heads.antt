@@ -81,14 +81,18 @@ counting base (Some first) (Some second) = if nat_lt first.sequence second.seque
 abbrev pub closed_head : Head
 closed_head = record { id = []; base = 0; gate = false; start = first_start 0 }
 
+-- the head that a header with an open gate tells, with what the cells do
+abbrev pub open_head : List ℕ → Option Start → Option Start → Head
+open_head page first second = record {
+  id = id_of page;
+  base = number_at 28 page;
+  gate = true;
+  start = counting (number_at 28 page) first second;
+}
+
 -- the head with an open gate that these bytes tell
 abbrev pub told_head : List ℕ → Head
-told_head bytes = record {
-  id = id_of (page_at 0 bytes);
-  base = number_at 28 (page_at 0 bytes);
-  gate = true;
-  start = counting (number_at 28 (page_at 0 bytes)) (told_by (page_at 4096 bytes)) (told_by (page_at 8192 bytes));
-}
+told_head bytes = open_head (page_at 0 bytes) (told_by (page_at 4096 bytes)) (told_by (page_at 8192 bytes))
 
 -- the head of a log, or the place of what is damaged: behind an open gate the header, the first cell, the second cell
 abbrev pub head_in : List ℕ → Result Head ℕ
@@ -105,6 +109,13 @@ TellsHead (Ok head) found = found ≡ Ok head
 TellsHead (Err (Bad at)) found = found ≡ Err at
 TellsHead (Err Fault) found = Unit {0}
 TellsHead (Err Memory) found = Unit {0}
+
+-- the answer tells what the start cell in this page, which stands at this place, tells
+abbrev pub TellsCell : Result (Option Start) LogFault → ℕ → List ℕ → Type 0
+TellsCell (Ok told) place page = (is_cell page ≡ true) × (told ≡ told_by page)
+TellsCell (Err (Bad at)) place page = (is_cell page ≡ false) × (at ≡ place)
+TellsCell (Err Fault) place page = Unit {0}
+TellsCell (Err Memory) place page = Unit {0}
 
 -- These bytes are the front of a log with this head: an open header, cells, and whatever stands up to the place where reading starts.
 pub record IsFront (head : Head) (front : List ℕ) : Type 0 where

@@ -10,6 +10,7 @@ mod laws;
 mod log;
 mod make;
 mod moves;
+mod pages;
 mod read;
 mod stage;
 

@@ -11,14 +11,12 @@ ghost use Rattle.ct_log.specs.Log.{IsLog, durable_text};
 
 use crate::flow::Flow;
 use crate::head::Head;
+use crate::pages::FIRST_CHUNK;
 use crate::read::{Chunk, LogFault, read_chunk};
 use crate::stage::Stage;
 use ct_disk::Disk;
 use ct_items::NoMemory;
 use std::alloc::Global;
-
-/// Where the first chunk stands, behind the header and the two start cells.
-const FIRST_CHUNK: u64 = 12288;
 
 /// A log on a device.
 #[derive(Drop)]

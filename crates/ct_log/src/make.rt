@@ -11,7 +11,7 @@ use ct_disk::{Disk, DiskError};
 const EMPTY_LOG: u64 = 12289;
 
 /// "CTLOGONE" and version 1.
-const SIGNATURE: [u8; 12] = [67, 84, 76, 79, 71, 79, 78, 69, 1, 0, 0, 0];
+pub(crate) const SIGNATURE: [u8; 12] = [67, 84, 76, 79, 71, 79, 78, 69, 1, 0, 0, 0];
 
 /// Where the id stands in the header.
 const ID: u64 = 12;

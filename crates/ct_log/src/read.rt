@@ -6,13 +6,11 @@ ghost use Rattle.ct_disk.specs.Disk.{CountsFault, Rose};
 ghost use Rattle.ct_log.specs.Front.{zeros};
 ghost use Rattle.ct_log.specs.Reading.{IsRead, Tells, found_in, log_bytes};
 
+use crate::pages::LAST_END;
 use ct_disk::{Disk, DiskFault};
 use ct_items::{Items, NoMemory};
 use std::alloc::{AllocError, Global};
 use thiserror::Error;
-
-/// Where a device is taken as ending, however long it is.
-const LAST_END: u64 = 1 << 62;
 
 /// A gate and the four bytes of a length behind it.
 const FRAME: u64 = 5;
