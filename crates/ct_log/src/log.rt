@@ -10,7 +10,7 @@ ghost use Rattle.ct_log.specs.Reading.{IsRead, Tells, found_in, log_bytes};
 ghost use Rattle.ct_log.specs.Log.{IsLog, durable_text};
 
 use crate::flow::Flow;
-use crate::head::Head;
+use crate::head::{Head, read_head};
 use crate::pages::FIRST_CHUNK;
 use crate::read::{Chunk, LogFault, read_chunk};
 use crate::stage::Stage;
@@ -47,7 +47,7 @@ impl<L: Disk> Log<L> {
 
     /// A log that is to be read from where its head says. Where it ends is told by `set_end`, once it is read.
     /// A refusal hands the device back.
-    pub fn open(alloc: Global, device: L) -> Result<(Log<L>, Head), (LogFault, L)>
+    pub fn open(alloc: Global, mut device: L) -> Result<(Log<L>, Head), (LogFault, L)>
         ensures head { IsTrue L.tells → IfOk result (λ opened. head_in (L.content device) ≡ Ok opened.1) }
         ensures bad { IsTrue L.tells → IfErr result (λ refused. TellsHead (Err refused.0) (head_in (L.content device))) }
         ensures end { IfOk result (λ opened. (opened.0.flow.end ≡ opened.1.start.place) × (opened.0.flow.next ≡ opened.1.start.ordinal)) }
@@ -58,7 +58,13 @@ impl<L: Disk> Log<L> {
         ensures later { MatchResult result (λ opened. L.faults device ≤ L.faults opened.0.device) (λ refused. L.faults device ≤ L.faults refused.1) }
         ensures cause { IfErr result (λ refused. refused.0 ≡ LogFault.Fault → Rose (L.faults device) (L.faults refused.1)) }
     {
-        Err((LogFault::Memory, device))
+        match read_head(alloc, &mut device) {
+            Ok(head) => {
+                let flow = Flow::at_rest(alloc, head.start.place, head.start.ordinal);
+                Ok((Log { device, flow }, head))
+            }
+            Err(fault) => Err((fault, device)),
+        }
     }
 
     /// Reads the chunk at a place.
