@@ -62,7 +62,7 @@ frame_read content into five place n most size zero_five fits is_most all count 
 length_field : (rest : List ℕ) → 4 ≤ length rest → take 4 (rest ++ zeros 5) ≡ take 4 rest
 length_field rest all = take-append-le 4 rest (zeros 5) all
 
-behind_open : (gate : ℕ) (rest : List ℕ) → gate ≡ 1 → found_in (gate ∷ rest) ≡ chunk_in rest
+pub behind_open : (gate : ℕ) (rest : List ℕ) → gate ≡ 1 → found_in (gate ∷ rest) ≡ chunk_in rest
 behind_open gate rest is_open = cond-true (eqb gate 1) (chunk_in rest) nothing (eq-eqb gate 1 is_open)
 
 -- a chunk that goes on past the end

@@ -56,11 +56,11 @@ slice_get-take (suc n) zero (x ∷ xs) below = refl
 slice_get-take (suc n) (suc k) (x ∷ xs) below = slice_get-take n k xs (omega arith)
 
 -- the gate of a header on its page
-gate_on_page : (content : List ℕ) → is_open (slice_get (page_at 0 content) 36) ≡ has_open_header content
+pub gate_on_page : (content : List ℕ) → is_open (slice_get (page_at 0 content) 36) ≡ has_open_header content
 gate_on_page content = ap is_open (slice_get-take 4096 36 content (omega arith))
 
 -- the head by four tests
-abbrev pick : Bool → Bool → Bool → Bool → Head → Result Head ℕ
+abbrev pub pick : Bool → Bool → Bool → Bool → Head → Result Head ℕ
 pick gate header first second head =
     cond (not gate) (Ok closed_head) (cond (not header) (Err 0) (cond (not first) (Err 4096) (cond (not second) (Err 8192) (Ok head))))
 

@@ -81,6 +81,10 @@ counting base (Some first) (Some second) = if nat_lt first.sequence second.seque
 abbrev pub closed_head : Head
 closed_head = record { id = []; base = 0; gate = false; start = first_start 0 }
 
+-- the head of a log that was made with this id and this base number, and opened
+abbrev pub made_head : List ℕ → ℕ → Head
+made_head id base = record { id = id; base = base; gate = true; start = first_start base }
+
 -- the head that a header with an open gate tells, with what the cells do
 abbrev pub open_head : List ℕ → Option Start → Option Start → Head
 open_head page first second = record {
