@@ -3,7 +3,7 @@ use Rattle.std.proofs.Common.{◌≡◌, ◌^◌, IsTrue, ◌-◌, ◌<◌, ◌�
 use Rattle.std.specs.Prelude.{slice_get}
 use Rattle.std.proofs.lemmas.Bool.Decides.{nat_tests}
 use Rattle.std.proofs.lemmas.List.{take_min, take-take, take-append-le}
-use Rattle.ct_disk.specs.Disk.{GoesOn, unchanged}
+use Rattle.ct_disk.specs.Disk.{unchanged}
 use Rattle.ct_disk.proofs.Moments.{GoesOn-then_unchanged}
 use Rattle.ct_log.specs.Heads.{page_at, is_open, has_open_header, is_header, is_start, is_cell, told_by, told_head, open_head, closed_head, head_in, TellsHead, TellsCell}
 use Rattle.ct_log.specs.Reading.{IsRead}

@@ -1,16 +1,15 @@
 -- The head of a log that was made, as it is read.
-use Rattle.std.proofs.Common.{◌≡◌, ◌≢◌, IsTrue, ◌+◌, ◌-◌, ◌^◌, ◌≤◌, ◌<◌, ℕ, zero, suc, Bool, true, false, not, cond, List, [], ◌∷◌, ◌++◌, length, take, drop, get_or, replicate, eqb, leb, Option, Some, None, Result, Ok, Err, refl, sym, ap, ◌∙◌, subst, inl, inr, arith, append_assoc, length-append, length-drop, ◌&&◌}
+use Rattle.std.proofs.Common.{◌≡◌, ◌≢◌, IsTrue, ◌+◌, ◌-◌, ◌^◌, ◌≤◌, ◌<◌, ℕ, zero, suc, Bool, true, false, not, List, [], ◌∷◌, ◌++◌, length, take, drop, get_or, replicate, eqb, leb, Some, None, Result, Ok, refl, sym, ap, ◌∙◌, arith, append_assoc, length-append, length-drop, ◌&&◌}
 use Rattle.std.specs.Prelude.{slice_get, bytes_eq}
-use Rattle.std.specs.List.{list_any, list_all}
+use Rattle.std.specs.List.{list_any}
 use Rattle.std.specs.Int.{w64, from_le_bytes}
-use Rattle.std.proofs.lemmas.Bool.{cases_Bool, eq-eqb, ne_eqb, and_from, and_parts, or_parts, not-true, le-leb, cond-true, cond-false}
-use Rattle.std.proofs.lemmas.List.{take_at, drop_at, take-append-le, drop-append-le, drop-drop, get_or-replicate, append-nil}
+use Rattle.std.proofs.lemmas.Bool.{eq-eqb, ne_eqb, and_from, and_parts, or_parts, not-true, le-leb, cond-false}
+use Rattle.std.proofs.lemmas.List.{take_at, drop_at, take-append-le, drop-append-le, drop-drop, get_or-replicate}
 use Rattle.std.proofs.lemmas.Nat.{from_le_bytes-to_le_bytes_8}
 use Rattle.std.proofs.lemmas.Option.{slice_get-get_or}
 use Rattle.ct_log.specs.Front.{zeros, signature, number_bytes, is_id, name_plate, header, front, front_with}
-use Rattle.ct_log.specs.Heads.{page_at, is_open, are_zero, before_zero, number_at, id_field, id_of, is_header, has_open_header, is_cell_open, start_of, is_start, is_cell, told_by, first_start, counting, closed_head, made_head, open_head, head_in}
+use Rattle.ct_log.specs.Heads.{page_at, is_open, are_zero, before_zero, number_at, id_field, id_of, is_header, is_cell_open, start_of, is_start, is_cell, told_by, closed_head, made_head, open_head, head_in}
 use Rattle.ct_log.specs.declared.head.Head.{Head}
-use Rattle.ct_log.specs.declared.head.Start.{Start}
 use Rattle.ct_log.proofs.Fronts.{length-zeros, length-number_bytes, zeros-append-zeros, length-name_plate, id_short}
 use Rattle.ct_log.proofs.HeadReads.{gate_on_page, pick}
 

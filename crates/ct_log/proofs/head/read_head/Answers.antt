@@ -1,8 +1,7 @@
-use Rattle.std.proofs.Common.{◌≡◌, ◌∙◌, Bool, true, false, List, ℕ, Ok, Err, refl, sym, ap, subst}
+use Rattle.std.proofs.Common.{◌≡◌, ◌∙◌, true, false, List, ℕ, Ok, Err, sym, ap, subst}
 use Rattle.std.specs.Prelude.{slice_get}
 use Rattle.std.proofs.lemmas.Result.{err_from_is_err_and}
-use Rattle.ct_log.specs.Heads.{page_at, is_open, is_header, is_cell, told_by, open_head, head_in, TellsHead, TellsCell}
-use Rattle.ct_log.specs.declared.read.LogFault.{LogFault}
+use Rattle.ct_log.specs.Heads.{page_at, is_open, is_header, is_cell, told_by, open_head, head_in, TellsCell}
 use Rattle.ct_log.specs.declared.read.LogFault.TheVariants.{Memory}
 use Rattle.ct_log.proofs.HeadReads.{IsRead-then, closed_found, no_header_found, first_failed, second_failed, head_found, not_bad, at_err}
 use Rattle.ct_log.proofs.head.read_head.Goals as goal

@@ -1,4 +1,4 @@
-use Rattle.std.proofs.Common.{sym, ◌∙◌}
+use Rattle.std.proofs.Common.{sym}
 use Rattle.ct_log.proofs.Zeros.{front_to_zero, all_before_zero}
 use Rattle.ct_log.proofs.pages.before_zero.Goals as goal
 
