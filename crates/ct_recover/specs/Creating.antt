@@ -1,0 +1,17 @@
+-- What making a store leaves.
+use Rattle.std.specs.Prelude.{◌≡◌, ◌⊎◌, ℕ, List, [], ◌∷◌, ◌++◌, false}
+use Rattle.ct_definitions.specs.Histories.{History}
+use Rattle.ct_log.specs.Front.{front}
+use Rattle.ct_log.specs.Heads.{has_open_header}
+
+-- the log of a store without transactions
+abbrev pub empty_log : List ℕ → List ℕ
+empty_log id = front id 0 ++ 0 ∷ []
+
+-- the history of a store that was just made
+abbrev pub empty_history : History
+empty_history = record { base = []; base_number = 0; transactions = [] }
+
+-- the header's gate is not open, or the store is whole
+abbrev pub IsClosedOrWhole : List ℕ → List ℕ → Type 0
+IsClosedOrWhole id bytes = (has_open_header bytes ≡ false) ⊎ (bytes ≡ empty_log id)

@@ -1,0 +1,90 @@
+-- What opening finds on a log: a history up to the first gate that is not open, or the place of the first damage.
+use Rattle.std.specs.Prelude.{◌≡◌, ◌≢◌, ◌≤◌, ◌⊎◌, ◌+◌, ℕ, List, [], ◌∷◌, ◌++◌, length, Bool, true, false, Result, Ok, Err}
+use Rattle.ct_definitions.specs.declared.change.Transaction.{Transaction}
+use Rattle.ct_definitions.specs.Histories.{History, IsHistory, after, allows_all, last_number}
+use Rattle.ct_disk.specs.Disk.{Rose}
+use Rattle.ct_group.specs.Commit.{commit_text}
+use Rattle.ct_group.specs.Groups.{FitsTransaction}
+use Rattle.ct_log.specs.Heads.{head_in}
+use Rattle.ct_log.specs.Reading.{Found, nothing, chunk, damage, found_in}
+use Rattle.ct_log.specs.declared.head.Head.{Head}
+use Rattle.ct_yard.specs.declared.yard.Yard.{Yard}
+use Rattle.ct_yard.specs.Kept.{Founds}
+use Rattle.ct_yard.specs.LogTexts.{groups_text, log_text, InChunks}
+use Rattle.ct_yard.specs.Machine.{opened_machine}
+use Rattle.ct_yard.specs.Yards.{StandsFor}
+use Rattle.ct_recover.specs.declared.fault.OpenFault.{OpenFault}
+use Rattle.ct_recover.specs.declared.fault.OpenFault.TheVariants.{NotEmpty, Undone, BadLog, Device, Memory}
+
+-- The log begins with this front, which founds the history; chunks of the history's transactions stand behind it, up to a place;
+-- and behind them these bytes.
+pub record IsReadTo (head : Head) (front : List ℕ) (history : History) (place : ℕ) (rest bytes : List ℕ) : Type 0 where
+  pub chunks : List (List Transaction)
+  pub founds : Founds head front history
+  pub in_chunks : InChunks history.transactions chunks
+  pub up_to : place ≡ length (log_text front chunks)
+  pub parts : bytes ≡ log_text front chunks ++ rest
+
+-- a log that was read up to a chunk that is not open, or to its end
+pub record IsReadToEnd (head : Head) (front : List ℕ) (history : History) (place : ℕ) (bytes : List ℕ) : Type 0 where
+  pub rest : List ℕ
+  pub read : IsReadTo head front history place rest bytes
+  pub ends : found_in rest ≡ nothing
+
+-- the history with these transactions behind its own
+abbrev pub extended : History → List Transaction → History
+extended history ts = record { base = history.base; base_number = history.base_number; transactions = history.transactions ++ ts }
+
+-- bytes that are left of a chunk, and do not begin with a commit of the history's next transaction
+pub record IsNoNext (history : History) (tail : List ℕ) : Type 0 where
+  pub some : tail ≢ []
+  pub none : (t : Transaction) (more : List ℕ) → FitsTransaction t → tail ≡ commit_text t ++ more → t.number ≡ last_number history + 1 → allows_all (after history) t.changes ≡ true → ⊥
+
+-- an open chunk of which some groups are read, and then comes what is no next commit
+pub record HasBadGroup (history : History) (place : ℕ) (rest : List ℕ) (at : ℕ) : Type 0 where
+  pub first : List Transaction
+  pub tail : List ℕ
+  pub found : found_in rest ≡ chunk (groups_text first ++ tail)
+  pub defined : IsHistory (extended history first)
+  pub bad : IsNoNext (extended history first) tail
+  pub here : at ≡ place + 5 + length (groups_text first)
+
+-- an open chunk that goes on past the device's end
+pub record HasCutChunk (place : ℕ) (rest : List ℕ) (at : ℕ) : Type 0 where
+  pub found : found_in rest ≡ damage
+  pub here : at ≡ place
+
+-- The log is damaged at this place: in its head, or behind a part that could be read.
+abbrev pub IsBad : List ℕ → ℕ → Type 0
+IsBad bytes at = (head_in bytes ≡ Err at)
+    ⊎ ((head : Head) × (front : List ℕ) × (history : History) × (place : ℕ) × (rest : List ℕ) × IsReadTo head front history place rest bytes × (HasCutChunk place rest at ⊎ HasBadGroup history place rest at))
+
+-- The yard is that of the log's whole history.
+pub record Opens {P L : Type 0} (bytes : List ℕ) (yard : Yard P L) : Type 0 where
+  pub head : Head
+  pub front : List ℕ
+  pub history : History
+  pub read : IsReadToEnd head front history yard.log.flow.end bytes
+  pub number : yard.front ≡ last_number history
+  pub state : yard.state ≡ after history
+
+-- a refusal of a store that is in order: a device failed, or memory was wanted
+abbrev pub IsNoFinding : OpenFault → Type 0
+IsNoFinding Device = Unit {0}
+IsNoFinding Memory = Unit {0}
+IsNoFinding NotEmpty = ⊥
+IsNoFinding Undone = ⊥
+IsNoFinding (BadLog place) = ⊥
+
+-- a store with this history is opened as it is, unless a device fails or memory is wanted
+abbrev pub OpensAs : {P L : Type 0} → Bool → (L → ℕ) → (L → List ℕ) → (L → List ℕ → Type 0) → List ℕ → History → Result (Yard P L) (OpenFault × P × L) → Type 0
+OpensAs tells count_of content may_leave front history (Ok yard) = StandsFor tells count_of content may_leave front (opened_machine history (count_of yard.log.device) yard.log.flow.end yard.log.flow.next) yard
+OpensAs tells count_of content may_leave front history (Err refusal) = IsNoFinding refusal.0
+
+-- a device failed only where the count of one of them rose
+abbrev pub HasOpenCause : OpenFault → ℕ → ℕ → ℕ → ℕ → Type 0
+HasOpenCause Device pages pages' log log' = Rose pages pages' ⊎ Rose log log'
+HasOpenCause Memory pages pages' log log' = Unit {0}
+HasOpenCause NotEmpty pages pages' log log' = Unit {0}
+HasOpenCause Undone pages pages' log log' = Unit {0}
+HasOpenCause (BadLog place) pages pages' log log' = Unit {0}
