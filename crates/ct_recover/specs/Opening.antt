@@ -1,12 +1,12 @@
 -- What opening finds on a log: a history up to the first gate that is not open, or the place of the first damage.
-use Rattle.std.specs.Prelude.{◌≡◌, ◌≢◌, ◌≤◌, ◌⊎◌, ◌+◌, ℕ, List, [], ◌∷◌, ◌++◌, length, Bool, true, false, Result, Ok, Err}
+use Rattle.std.specs.Prelude.{◌≡◌, ◌≢◌, ◌≤◌, ◌⊎◌, ◌+◌, ℕ, List, [], ◌∷◌, ◌++◌, length, Bool, true, false, not, ◌&&◌, ◌==◌, IsTrue, slice_get, Option, Some, None, Result, Ok, Err}
 use Rattle.ct_definitions.specs.declared.change.Transaction.{Transaction}
 use Rattle.ct_definitions.specs.Histories.{History, IsHistory, after, allows_all, last_number}
 use Rattle.ct_disk.specs.Disk.{Rose}
 use Rattle.ct_group.specs.Commit.{commit_text}
 use Rattle.ct_group.specs.Groups.{FitsTransaction}
 use Rattle.ct_log.specs.Heads.{head_in}
-use Rattle.ct_log.specs.Reading.{Found, nothing, chunk, damage, found_in}
+use Rattle.ct_log.specs.Reading.{Found, nothing, chunk, damage, found_in, log_bytes}
 use Rattle.ct_log.specs.declared.head.Head.{Head}
 use Rattle.ct_yard.specs.declared.yard.Yard.{Yard}
 use Rattle.ct_yard.specs.Kept.{Founds}
@@ -59,14 +59,21 @@ abbrev pub IsBad : List ℕ → ℕ → Type 0
 IsBad bytes at = (head_in bytes ≡ Err at)
     ⊎ ((head : Head) × (front : List ℕ) × (history : History) × (place : ℕ) × (rest : List ℕ) × IsReadTo head front history place rest bytes × (HasCutChunk place rest at ⊎ HasBadGroup history place rest at))
 
--- The yard is that of the log's whole history.
-pub record Opens {P L : Type 0} (bytes : List ℕ) (yard : Yard P L) : Type 0 where
+-- whether a closed gate is there
+abbrev pub is_closed : Option ℕ → Bool
+is_closed None = false
+is_closed (Some gate) = not (gate == 1)
+
+-- The yard stands for the history that was read: from the log, where that tells its content. Where the byte of the log's last
+-- gate is there, too, a crash leaves the history; a log without it is read, but a write behind it may be seen half.
+pub record Opens {P L : Type 0} (tells : Bool) (count_of : L → ℕ) (content : L → List ℕ) (may_leave : L → List ℕ → Type 0) (log : L) (yard : Yard P L) : Type 0 where
   pub head : Head
   pub front : List ℕ
   pub history : History
-  pub read : IsReadToEnd head front history yard.log.flow.end bytes
-  pub number : yard.front ≡ last_number history
-  pub state : yard.state ≡ after history
+  pub base : history.base ≡ []
+  pub read : IsTrue tells → IsReadToEnd head front history yard.log.flow.end (log_bytes (content log))
+  pub stands : StandsFor (tells && is_closed (slice_get (content log) yard.log.flow.end)) count_of content may_leave front
+      (opened_machine history (count_of yard.log.device) yard.log.flow.end yard.log.flow.next) yard
 
 -- a refusal of a store that is in order: a device failed, or memory was wanted
 abbrev pub IsNoFinding : OpenFault → Type 0

@@ -26,7 +26,7 @@ pub fn open_store<P: Disk, L: Disk>(
     pages: P,
     log: L,
 ) -> Result<Yard<P, L>, (OpenFault, P, L)>
-    ensures opened { IsTrue L.tells → IfOk result (λ yard. Opens (log_bytes (L.content log)) yard) }
+    ensures opened { IfOk result (λ yard. Opens L.tells L.faults L.content L.may_leave log yard) }
     ensures open { IsTrue L.tells → IfOk result (λ yard. has_open_header (L.content log) ≡ true) }
     ensures undone { IsTrue L.tells → IfErr result (λ refusal. refusal.0 ≡ OpenFault.Undone → has_open_header (L.content log) ≡ false) }
     ensures bad { IsTrue L.tells → IfErr result (λ refusal. (place : ℕ) → refusal.0 ≡ OpenFault.BadLog place → IsBad (log_bytes (L.content log)) place) }
