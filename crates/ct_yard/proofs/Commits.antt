@@ -30,6 +30,46 @@ use Rattle.ct_yard.specs.Writes.{of_one, has_room_for, IsWritten, IsRefused, IsS
 use Rattle.ct_yard.specs.Yards.{StandsFor, KeptThrough}
 use Rattle.ct_yard.proofs.LogTexts.{text_more, whole_held, either_held}
 
+-- what is written where the log tells its content is so where the yard is founded
+pub narrower : {P L : Type 0} (tells founded : Bool) (count_of : L → ℕ) (content : L → List ℕ) (may_leave : L → List ℕ → Type 0) (left_since : L → L → List ℕ → Type 0) (group : List ℕ) (result : Result Unit CommitFault) (old new : Yard P L)
+    → (IsTrue founded → IsTrue tells) → Writes tells count_of content may_leave left_since group result old new → Writes founded count_of content may_leave left_since group result old new
+narrower tells founded count_of content may_leave left_since group (Ok _) old new told is = record {
+  pages = is.pages;
+  state = is.state;
+  halt = is.halt;
+  front = is.front;
+  at_rest = is.at_rest;
+  end = is.end;
+  next = is.next;
+  log = λ here. is.log (told here);
+  text = λ here. is.text (told here);
+  moments = λ here. is.moments (told here);
+  faults = is.faults;
+}
+narrower tells founded count_of content may_leave left_since group (Err Memory) old new told is = record {
+  pages = is.pages;
+  state = is.state;
+  halt = is.halt;
+  front = is.front;
+  device = is.device;
+  at_rest = is.at_rest;
+  end = is.end;
+  next = is.next;
+  log = λ here. is.log (told here);
+  text = is.text;
+}
+narrower tells founded count_of content may_leave left_since group (Err (Halted cause)) old new told is = record {
+  pages = is.pages;
+  halt = is.halt;
+  front = is.front;
+  end = is.end;
+  kind = is.kind;
+  log = λ here. is.log (told here);
+  stands = λ here. is.stands (told here);
+  moments = λ here. is.moments (told here);
+  why = is.why;
+}
+
 -- whether there is room, by the three numbers
 pub room_by_numbers : (number n : ℕ) (flow : Flow) → IsAtRest flow → n ≤ 8000
     → (nat_lt number (2 ^ 63) && has_room_in flow n) ≡ (nat_lt number (2 ^ 63) && nat_lt flow.next (2 ^ 63) && nat_lt (flow.end + 5 + n) (2 ^ 62))

@@ -1,6 +1,6 @@
 //! The yard of one session, over the plain state.
 
-ghost use Rattle.std.specs.Prelude.{◌≡◌, ◌≤◌, ◌<◌, ◌^◌, ◌+◌, ℕ, List, length, IsTrue, true, Some, None};
+ghost use Rattle.std.specs.Prelude.{◌≡◌, ◌≤◌, ◌<◌, ◌^◌, ◌+◌, ℕ, Bool, List, length, IsTrue, true, Some, None};
 ghost use Rattle.ct_log.specs.Flow.{IsAtRest};
 ghost use Rattle.ct_log.specs.Log.{IsLog, durable_text};
 ghost use Rattle.ct_definitions.specs.Changes.{allows};
@@ -68,10 +68,10 @@ impl<P: Disk, L: Disk> Yard<P, L> {
         ensures running { result.halt ≡ None }
         ensures settled { IsSettled result }
         // Where its log holds the history, it stands for it.
-        ensures stands { (text : List ℕ) (history : History) → IsHistory history → front ≡ last_number history → state ≡ after history
-            → (IsTrue L.tells → IsLog L.content L.may_leave log)
-            → (IsTrue L.tells → IsTextOf text history.transactions (durable_text L.content log))
-            → StandsFor L.tells L.faults L.content L.may_leave text (opened_machine history (L.faults log.device) log.flow.end log.flow.next) result }
+        ensures stands { (founded : Bool) (text : List ℕ) (history : History) → IsHistory history → front ≡ last_number history → state ≡ after history
+            → (IsTrue founded → IsLog L.content L.may_leave log)
+            → (IsTrue founded → IsTextOf text history.transactions (durable_text L.content log))
+            → StandsFor founded L.faults L.content L.may_leave text (opened_machine history (L.faults log.device) log.flow.end log.flow.next) result }
     {
         Yard {
             pages,
@@ -89,9 +89,9 @@ impl<P: Disk, L: Disk> Yard<P, L> {
         requires running { self.old.halt ≡ None }
         requires allowed { allows self.old.state change ≡ true }
         requires settled { IsSettled self.old }
-        ensures commits { (text : List ℕ) (machine : Machine) → StandsFor L.tells L.faults L.content L.may_leave text machine self.old →
-            (next : Machine) × Commits machine change result next × StandsFor L.tells L.faults L.content L.may_leave text next self.new
-            × KeptThrough L.tells L.left_since text machine self.old.log.device next self.new.log.device }
+        ensures commits { (founded : Bool) (text : List ℕ) (machine : Machine) → (IsTrue founded → IsTrue L.tells) → StandsFor founded L.faults L.content L.may_leave text machine self.old →
+            (next : Machine) × Commits machine change result next × StandsFor founded L.faults L.content L.may_leave text next self.new
+            × KeptThrough founded L.left_since text machine self.old.log.device next self.new.log.device }
         ensures settled { IsSettled self.new }
         ensures pages { self.new.pages ≡ self.old.pages }
     {
