@@ -1,5 +1,5 @@
 -- What a reply means for the machine that a yard stands for.
-use Rattle.std.proofs.Common.{◌≡◌, ℕ, List, ◌++◌, Bool, true, false, cond, Option, Some, None, Result, Ok, Err, refl, sym, ap, ◌∙◌, subst, inl, inr, slice_get, MatchOption}
+use Rattle.std.proofs.Common.{◌≡◌, ℕ, List, ◌++◌, Bool, IsTrue, true, false, cond, Option, Some, None, Result, Ok, Err, refl, sym, ap, ◌∙◌, subst, inl, inr, slice_get, MatchOption}
 use Rattle.ct_definitions.specs.declared.definition.FileDef.{FileDef}
 use Rattle.ct_definitions.specs.declared.change.Change.TheVariants.{Make, Add}
 use Rattle.ct_definitions.specs.Changes.{State, allows, passes}
@@ -61,35 +61,35 @@ add_replies old next name image num (Err (Halted cause)) holds fresh allowed com
 module _ {P L : Type 0} (tells : Bool) (count_of : L → ℕ) (content : L → List ℕ) (may_leave : L → List ℕ → Type 0) (left_since : L → L → List ℕ → Type 0) where
   -- want of memory, with nothing changed
   pub memory_serves : (yard : Yard P L) (form : Option Form) → Serves tells count_of content may_leave left_since yard form no_memory yard
-  memory_serves yard form front machine stands running = (machine, inl (refl, refl), stands, inl refl)
+  memory_serves yard form founded front machine told stands running = (machine, inl (refl, refl), stands, inl refl)
 
   -- a form whose condition fails
   pub unbuilt_serves : (yard : Yard P L) (form : Form) → is_met yard.state form ≡ false → Serves tells count_of content may_leave left_since yard (Some form) unbuilt yard
-  unbuilt_serves yard form fails front machine stands running =
+  unbuilt_serves yard form fails founded front machine told stands running =
       let same : state_of machine ≡ yard.state = sym (stands.state running) in
       (machine, inr (answered machine machine (met_form (state_of machine) (Some form)) None unbuilt (unmet (state_of machine) form (ap (λ (s : State). is_met s form) same ∙ fails)) (refl, refl)), stands, inl refl)
 
   -- no form at all
   pub nothing_serves : (yard : Yard P L) → Serves tells count_of content may_leave left_since yard None unbuilt yard
-  nothing_serves yard front machine stands running = (machine, inr (refl, refl), stands, inl refl)
+  nothing_serves yard founded front machine told stands running = (machine, inr (refl, refl), stands, inl refl)
 
   -- a file made
   pub create_serves : (old new : Yard P L) (def : FileDef) (outcome : Result ℕ CommitFault) → is_met old.state (create def) ≡ true → allows old.state (Make 0 def) ≡ true
-      → ((front : List ℕ) (machine : Machine) → StandsFor tells count_of content may_leave front machine old → (next : Machine) × Commits machine (Make 0 def) outcome next × StandsFor tells count_of content may_leave front next new × KeptThrough tells left_since front machine old.log.device next new.log.device)
+      → ((founded : Bool) (front : List ℕ) (machine : Machine) → (IsTrue founded → IsTrue tells) → StandsFor founded count_of content may_leave front machine old → (next : Machine) × Commits machine (Make 0 def) outcome next × StandsFor founded count_of content may_leave front next new × KeptThrough founded left_since front machine old.log.device next new.log.device)
       → Serves tells count_of content may_leave left_since old (Some (create def)) (reply_of (said_of outcome)) new
-  create_serves old new def outcome holds allowed commits front machine stands running =
+  create_serves old new def outcome holds allowed commits founded front machine told stands running =
       let same : state_of machine ≡ old.state = sym (stands.state running) in
-      let done = commits front machine stands in
+      let done = commits founded front machine told stands in
       (done.0, create_replies machine done.0 def outcome (ap (λ (s : State). is_met s (create def)) same ∙ holds) (ap (λ (s : State). allows s (Make 0 def)) same ∙ allowed) done.1, done.2, done.3)
 
   -- a record added
   pub add_serves : (old new : Yard P L) (name image : List ℕ) (num : ℕ) (outcome : Result ℕ CommitFault) → is_met old.state (add name image) ≡ true
       → passes (slice_get old.state 0) (is_duplicate image) ≡ false → allows old.state (Add 0 num image) ≡ true
-      → ((front : List ℕ) (machine : Machine) → StandsFor tells count_of content may_leave front machine old → (next : Machine) × Commits machine (Add 0 num image) outcome next × StandsFor tells count_of content may_leave front next new × KeptThrough tells left_since front machine old.log.device next new.log.device)
+      → ((founded : Bool) (front : List ℕ) (machine : Machine) → (IsTrue founded → IsTrue tells) → StandsFor founded count_of content may_leave front machine old → (next : Machine) × Commits machine (Add 0 num image) outcome next × StandsFor founded count_of content may_leave front next new × KeptThrough founded left_since front machine old.log.device next new.log.device)
       → Serves tells count_of content may_leave left_since old (Some (add name image)) (reply_of (said_by num outcome)) new
-  add_serves old new name image num outcome holds fresh allowed commits front machine stands running =
+  add_serves old new name image num outcome holds fresh allowed commits founded front machine told stands running =
       let same : state_of machine ≡ old.state = sym (stands.state running) in
-      let done = commits front machine stands in (
+      let done = commits founded front machine told stands in (
         done.0,
         add_replies machine done.0 name image num outcome (ap (λ (s : State). is_met s (add name image)) same ∙ holds)
             (ap (λ (s : State). passes (slice_get s 0) (is_duplicate image)) same ∙ fresh) (ap (λ (s : State). allows s (Add 0 num image)) same ∙ allowed) done.1,
@@ -100,7 +100,7 @@ module _ {P L : Type 0} (tells : Bool) (count_of : L → ℕ) (content : L → L
   -- a key that is there
   pub kdup_serves : (yard : Yard P L) (name image : List ℕ) → is_met yard.state (add name image) ≡ true → passes (slice_get yard.state 0) (is_duplicate image) ≡ true
       → Serves tells count_of content may_leave left_since yard (Some (add name image)) kdup_err yard
-  kdup_serves yard name image holds there front machine stands running =
+  kdup_serves yard name image holds there founded front machine told stands running =
       let same : state_of machine ≡ yard.state = sym (stands.state running) in
       let taken : passes (slice_get (state_of machine) 0) (is_duplicate image) ≡ true = ap (λ (s : State). passes (slice_get s 0) (is_duplicate image)) same ∙ there in (
         machine,
@@ -113,7 +113,7 @@ module _ {P L : Type 0} (tells : Bool) (count_of : L → ℕ) (content : L → L
   -- a record looked for
   pub get_serves : (yard : Yard P L) (name index target : List ℕ) → is_met yard.state (get name index target) ≡ true
       → Serves tells count_of content may_leave left_since yard (Some (get name index target)) (look_reply (row_in target (slice_get yard.state 0))) yard
-  get_serves yard name index target holds front machine stands running =
+  get_serves yard name index target holds founded front machine told stands running =
       let same : state_of machine ≡ yard.state = sym (stands.state running) in (
         machine,
         inr (answered machine machine (met_form (state_of machine) (Some (get name index target))) (Some (get name index target)) (look_reply (row_in target (slice_get yard.state 0)))
@@ -125,19 +125,19 @@ module _ {P L : Type 0} (tells : Bool) (count_of : L → ℕ) (content : L → L
 
   -- a reply written behind what waits
   pub behind : (old new : Yard P L) (form : Option Form) (reply : Reply) (text longer : List ℕ) → Serves tells count_of content may_leave left_since old form reply new → longer ≡ text ++ spelling reply → ServesBehind tells count_of content may_leave left_since old form new text longer
-  behind old new form reply text longer serves written front machine stands running =
-      let done = serves front machine stands running in (reply, done.0, done.1, done.2, done.3, written)
+  behind old new form reply text longer serves written founded front machine told stands running =
+      let done = serves founded front machine told stands running in (reply, done.0, done.1, done.2, done.3, written)
 
   -- a running yard's answer to a line
   pub line_answers : (old new : Yard P L) (line : Option (List ℕ)) (form : Option Form) (text longer : List ℕ) → old.halt ≡ None → form ≡ form_of_line line
       → ServesBehind tells count_of content may_leave left_since old form new text longer → AnswersLine tells count_of content may_leave left_since old line new text longer
-  line_answers old new line form text longer runs same serves front machine stands =
+  line_answers old new line form text longer runs same serves founded front machine told stands =
       let running : machine.halt ≡ None = sym stands.halt ∙ runs in
-      let done = serves front machine stands running in
+      let done = serves founded front machine told stands running in
       (done.0, done.1, running_step machine line form done.0 done.1 running same done.2, done.3, done.4, done.5)
 
   -- a halted yard's
   pub halt_answers : (yard : Yard P L) (line : Option (List ℕ)) (cause : HaltCause) (text longer : List ℕ) → yard.halt ≡ Some cause → longer ≡ text ++ spelling (halt_err cause) → AnswersLine tells count_of content may_leave left_since yard line yard text longer
-  halt_answers yard line cause text longer halted written front machine stands =
+  halt_answers yard line cause text longer halted written founded front machine told stands =
       let same : machine.halt ≡ Some cause = sym stands.halt ∙ halted in
       (halt_err cause, machine, halt_step machine line cause same, stands, inl refl, written)
