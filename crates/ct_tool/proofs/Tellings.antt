@@ -35,19 +35,19 @@ pub last_left : (held : Option (List ℕ)) → is_within_line held ≡ true → 
 last_left held some = ap (λ (b : Bool). cond b (line_unfinished held ∷ []) []) some
 
 -- the lines that nobody looked at
-passed : {L : Type 0} (tells : Bool) (left_since : L → L → List ℕ → Type 0) (front : List ℕ) (moment : Moment L) (lines : List (Option (List ℕ))) → (text : List ℕ) × Served (KeptStep tells left_since front) spelling moment lines text moment
-passed tells left_since front moment lines = Served-passed (KeptStep tells left_since front) spelling no_memory (λ m line. (inl (refl, refl), inl refl)) moment lines
+passed : {L : Type 0} (founded : Bool) (left_since : L → L → List ℕ → Type 0) (front : List ℕ) (moment : Moment L) (lines : List (Option (List ℕ))) → (text : List ℕ) × Served (KeptStep founded left_since front) spelling moment lines text moment
+passed founded left_since front moment lines = Served-passed (KeptStep founded left_since front) spelling no_memory (λ m line. (inl (refl, refl), inl refl)) moment lines
 
 module _ {P L : Type 0} (tells : Bool) (count_of : L → ℕ) (content : L → List ℕ) (may_leave : L → List ℕ → Type 0) (left_since : L → L → List ℕ → Type 0) where
   -- nothing answered yet
   pub none_served : (yard : Yard P L) (written : Option (List ℕ)) (waiting : List ℕ) → ServesLines {E = SinkError} tells count_of content may_leave left_since (Ok tt) yard [] yard written written waiting waiting
-  none_served yard written waiting front machine stands = (machine, Answered-none (KeptStep tells left_since front) spelling (at_moment machine yard) written waiting, stands)
+  none_served yard written waiting founded front machine told stands = (machine, Answered-none (KeptStep founded left_since front) spelling (at_moment machine yard) written waiting, stands)
 
   -- where the sink refuses before the lines are looked at
   pub refused_serves : (error : SinkError) (yard : Yard P L) (lines : List (Option (List ℕ))) (a b : Option (List ℕ)) (waiting now : List ℕ)
       → Puts {E = SinkError} (Err error) a b waiting now → ServesLines {E = SinkError} tells count_of content may_leave left_since (Err error) yard lines yard a b waiting now
-  refused_serves error yard lines a b waiting now puts front machine stands =
-      let rest = passed tells left_since front (at_moment machine yard) lines in (
+  refused_serves error yard lines a b waiting now puts founded front machine told stands =
+      let rest = passed founded left_since front (at_moment machine yard) lines in (
         machine,
         (
           puts.1 ++ rest.0,
@@ -65,13 +65,13 @@ module _ {P L : Type 0} (tells : Bool) (count_of : L → ℕ) (content : L → L
   -- a line answered, behind what was put
   pub line_served : (old new : Yard P L) (line : Option (List ℕ)) (a b : Option (List ℕ)) (waiting mid now : List ℕ)
       → Puts {E = SinkError} (Ok tt) a b waiting mid → AnswersLine tells count_of content may_leave left_since old line new mid now → ServesLines {E = SinkError} tells count_of content may_leave left_since (Ok tt) old (line ∷ []) new a b waiting now
-  line_served old new line a b waiting mid now puts answers front machine stands =
-      let done = answers front machine stands in (
+  line_served old new line a b waiting mid now puts answers founded front machine told stands =
+      let done = answers founded front machine told stands in (
         done.1,
         record {
           text = spelling done.0;
           put = puts.0;
-          served = Served-one (KeptStep tells left_since front) spelling (at_moment machine old) line done.0 (at_moment done.1 new) (done.2, done.4);
+          served = Served-one (KeptStep founded left_since front) spelling (at_moment machine old) line done.0 (at_moment done.1 new) (done.2, done.4);
           wrote = puts.1;
           same = ap (λ (t : List ℕ). t ++ spelling done.0) puts.2 ∙ append_assoc puts.0 mid (spelling done.0) ∙ ap (λ (t : List ℕ). puts.0 ++ t) (sym done.5);
         },
@@ -82,21 +82,21 @@ module _ {P L : Type 0} (tells : Bool) (count_of : L → ℕ) (content : L → L
   pub both_served : (result : Result Unit SinkError) (old mid new : Yard P L) (lines more : List (Option (List ℕ))) (a b c : Option (List ℕ)) (u v w : List ℕ)
       → ServesLines {E = SinkError} tells count_of content may_leave left_since (Ok tt) old lines mid a b u v → ServesLines tells count_of content may_leave left_since result mid more new b c v w
       → ServesLines tells count_of content may_leave left_since result old (lines ++ more) new a c u w
-  both_served (Ok done) old mid new lines more a b c u v w first second front machine stands =
-      let one = first front machine stands in
-      let two = second front one.0 one.2 in
-      (two.0, Answered-append (KeptStep tells left_since front) spelling (at_moment machine old) lines (at_moment one.0 mid) more (at_moment two.0 new) a b c u v w one.1 two.1, two.2)
-  both_served (Err error) old mid new lines more a b c u v w first second front machine stands =
-      let one = first front machine stands in
-      let two = second front one.0 one.2 in
-      (two.0, (two.1.0, Answered-append (KeptStep tells left_since front) spelling (at_moment machine old) lines (at_moment one.0 mid) more (at_moment two.0 new) a b c u v two.1.0 one.1 two.1.1), two.2)
+  both_served (Ok done) old mid new lines more a b c u v w first second founded front machine told stands =
+      let one = first founded front machine told stands in
+      let two = second founded front one.0 told one.2 in
+      (two.0, Answered-append (KeptStep founded left_since front) spelling (at_moment machine old) lines (at_moment one.0 mid) more (at_moment two.0 new) a b c u v w one.1 two.1, two.2)
+  both_served (Err error) old mid new lines more a b c u v w first second founded front machine told stands =
+      let one = first founded front machine told stands in
+      let two = second founded front one.0 told one.2 in
+      (two.0, (two.1.0, Answered-append (KeptStep founded left_since front) spelling (at_moment machine old) lines (at_moment one.0 mid) more (at_moment two.0 new) a b c u v two.1.0 one.1 two.1.1), two.2)
 
   -- after a refusal nobody looks at more lines
   pub lost_served : (error : SinkError) (old new : Yard P L) (lines more : List (Option (List ℕ))) (a b : Option (List ℕ)) (u v : List ℕ)
       → ServesLines {E = SinkError} tells count_of content may_leave left_since (Err error) old lines new a b u v → ServesLines {E = SinkError} tells count_of content may_leave left_since (Err error) old (lines ++ more) new a b u v
-  lost_served error old new lines more a b u v first front machine stands =
-      let one = first front machine stands in
-      let rest = passed tells left_since front (at_moment one.0 new) more in
+  lost_served error old new lines more a b u v first founded front machine told stands =
+      let one = first founded front machine told stands in
+      let rest = passed founded left_since front (at_moment one.0 new) more in
       let answered = one.1.1 in (
         one.0,
         (
@@ -104,7 +104,7 @@ module _ {P L : Type 0} (tells : Bool) (count_of : L → ℕ) (content : L → L
           record {
             text = answered.text ++ rest.0;
             put = answered.put;
-            served = Served-append (KeptStep tells left_since front) spelling (at_moment machine old) lines answered.text (at_moment one.0 new) more rest.0 (at_moment one.0 new) answered.served rest.1;
+            served = Served-append (KeptStep founded left_since front) spelling (at_moment machine old) lines answered.text (at_moment one.0 new) more rest.0 (at_moment one.0 new) answered.served rest.1;
             wrote = answered.wrote;
             same = sym (append_assoc u answered.text rest.0) ∙ ap (λ (t : List ℕ). t ++ rest.0) answered.same ∙ append_assoc answered.put one.1.0 rest.0;
           },
@@ -115,12 +115,12 @@ module _ {P L : Type 0} (tells : Bool) (count_of : L → ℕ) (content : L → L
   -- what waits is put
   pub put_served : (result : Result Unit SinkError) (old new : Yard P L) (lines : List (Option (List ℕ))) (a b c : Option (List ℕ)) (u v w : List ℕ)
       → ServesLines {E = SinkError} tells count_of content may_leave left_since (Ok tt) old lines new a b u v → Puts result b c v w → ServesLines tells count_of content may_leave left_since result old lines new a c u w
-  put_served (Ok done) old new lines a b c u v w first puts front machine stands =
-      let one = first front machine stands in
-      (one.0, Answered-put (KeptStep tells left_since front) spelling (at_moment machine old) lines (at_moment one.0 new) a b c u v puts.0 w one.1 puts.1 puts.2, one.2)
-  put_served (Err error) old new lines a b c u v w first puts front machine stands =
-      let one = first front machine stands in
-      (one.0, (puts.1, Answered-put (KeptStep tells left_since front) spelling (at_moment machine old) lines (at_moment one.0 new) a b c u v puts.0 puts.1 one.1 puts.2 puts.3), one.2)
+  put_served (Ok done) old new lines a b c u v w first puts founded front machine told stands =
+      let one = first founded front machine told stands in
+      (one.0, Answered-put (KeptStep founded left_since front) spelling (at_moment machine old) lines (at_moment one.0 new) a b c u v puts.0 w one.1 puts.1 puts.2, one.2)
+  put_served (Err error) old new lines a b c u v w first puts founded front machine told stands =
+      let one = first founded front machine told stands in
+      (one.0, (puts.1, Answered-put (KeptStep founded left_since front) spelling (at_moment machine old) lines (at_moment one.0 new) a b c u v puts.0 puts.1 one.1 puts.2 puts.3), one.2)
 
   -- the same of other lines that are the same
   pub same_lines : (result : Result Unit SinkError) (old new : Yard P L) (lines others : List (Option (List ℕ))) (a b : Option (List ℕ)) (u v : List ℕ) → others ≡ lines
@@ -165,7 +165,7 @@ module _ {P L : Type 0} (tells : Bool) (count_of : L → ℕ) (content : L → L
   pub begun : (yard : Yard P L) (taken written : Option (List ℕ)) → SoFar tells count_of content may_leave left_since [] yard yard taken taken written written
   begun yard taken written = record {
     took = Appends-nil taken;
-    answers = λ front machine stands. (machine, Answered-none (KeptStep tells left_since front) spelling (at_moment machine yard) written [], stands);
+    answers = λ founded front machine told stands. (machine, Answered-none (KeptStep founded left_since front) spelling (at_moment machine yard) written [], stands);
   }
 
   -- one piece more
@@ -174,12 +174,12 @@ module _ {P L : Type 0} (tells : Bool) (count_of : L → ℕ) (content : L → L
       → SoFar tells count_of content may_leave left_since (bytes ++ piece) old new t t'' w w''
   goes_on bytes piece held old mid new t t' t'' w w' w'' held_is so_far took serves = record {
     took = Appends-trans t t' t'' bytes piece so_far.took took;
-    answers = λ front machine stands.
-        let one = so_far.answers front machine stands in
-        let two = serves front one.0 one.2 in (
+    answers = λ founded front machine told stands.
+        let one = so_far.answers founded front machine told stands in
+        let two = serves founded front one.0 told one.2 in (
           two.0,
-          subst (λ (ls : List (Option (List ℕ))). Answered (KeptStep tells left_since front) spelling (at_moment machine old) ls (at_moment two.0 new) w w'' [] []) (sym (lines_from-append (Some []) bytes piece ∙ ap (λ (h : Option (List ℕ)). lines_from (Some []) bytes ++ lines_from h piece) (sym held_is)))
-              (Answered-append (KeptStep tells left_since front) spelling (at_moment machine old) (lines_from (Some []) bytes) (at_moment one.0 mid) (lines_from held piece) (at_moment two.0 new) w w' w'' [] [] [] one.1 two.1),
+          subst (λ (ls : List (Option (List ℕ))). Answered (KeptStep founded left_since front) spelling (at_moment machine old) ls (at_moment two.0 new) w w'' [] []) (sym (lines_from-append (Some []) bytes piece ∙ ap (λ (h : Option (List ℕ)). lines_from (Some []) bytes ++ lines_from h piece) (sym held_is)))
+              (Answered-append (KeptStep founded left_since front) spelling (at_moment machine old) (lines_from (Some []) bytes) (at_moment one.0 mid) (lines_from held piece) (at_moment two.0 new) w w' w'' [] [] [] one.1 two.1),
           two.2,
         );
   }
@@ -189,8 +189,8 @@ module _ {P L : Type 0} (tells : Bool) (count_of : L → ℕ) (content : L → L
       → SoFar tells count_of content may_leave left_since bytes old new t t' w w' → Keeps t' t'' → ServesInput tells count_of content may_leave left_since stop bytes old new t t'' w w'
   stopped stop bytes old new t t' t'' w w' lines_are left so_far kept = record {
     took = Appends-kept t t' t'' bytes so_far.took kept;
-    answers = λ front machine stands.
-        let one = so_far.answers front machine stands in (one.0, lines_from (Some []) bytes, [], lines_are (lines_from (Some []) bytes) refl, one.1, left, one.2);
+    answers = λ founded front machine told stands.
+        let one = so_far.answers founded front machine told stands in (one.0, lines_from (Some []) bytes, [], lines_are (lines_from (Some []) bytes) refl, one.1, left, one.2);
   }
 
   -- the input ended, and its last line is answered
@@ -199,15 +199,15 @@ module _ {P L : Type 0} (tells : Bool) (count_of : L → ℕ) (content : L → L
       → ServesInput tells count_of content may_leave left_since End bytes old new t t'' w w''
   ended bytes held old mid new t t' t'' w w' w'' held_is so_far took serves = record {
     took = subst (λ (bs : List ℕ). Appends t t'' bs) (append_none bytes) (Appends-trans t t' t'' bytes [] so_far.took took);
-    answers = λ front machine stands.
-        let one = so_far.answers front machine stands in
-        let two = serves front one.0 one.2 in (
+    answers = λ founded front machine told stands.
+        let one = so_far.answers founded front machine told stands in
+        let two = serves founded front one.0 told one.2 in (
           two.0,
           lines_of bytes,
           [],
           refl,
-          subst (λ (ls : List (Option (List ℕ))). Answered (KeptStep tells left_since front) spelling (at_moment machine old) ls (at_moment two.0 new) w w'' [] []) (ap (λ (h : Option (List ℕ)). lines_from (Some []) bytes ++ last_line h) held_is)
-              (Answered-append (KeptStep tells left_since front) spelling (at_moment machine old) (lines_from (Some []) bytes) (at_moment one.0 mid) (last_line held) (at_moment two.0 new) w w' w'' [] [] [] one.1 two.1),
+          subst (λ (ls : List (Option (List ℕ))). Answered (KeptStep founded left_since front) spelling (at_moment machine old) ls (at_moment two.0 new) w w'' [] []) (ap (λ (h : Option (List ℕ)). lines_from (Some []) bytes ++ last_line h) held_is)
+              (Answered-append (KeptStep founded left_since front) spelling (at_moment machine old) (lines_from (Some []) bytes) (at_moment one.0 mid) (last_line held) (at_moment two.0 new) w w' w'' [] [] [] one.1 two.1),
           refl,
           two.2,
         );
@@ -227,15 +227,15 @@ module _ {P L : Type 0} (tells : Bool) (count_of : L → ℕ) (content : L → L
       → ServesInput tells count_of content may_leave left_since (stop_of error) (bytes ++ piece) old new t t'' w w''
   cut error bytes piece held old mid new t t' t'' w w' w'' now held_is so_far took serves = record {
     took = Appends-trans t t' t'' bytes piece so_far.took took;
-    answers = λ front machine stands.
-        let one = so_far.answers front machine stands in
-        let two = serves front one.0 one.2 in (
+    answers = λ founded front machine told stands.
+        let one = so_far.answers founded front machine told stands in
+        let two = serves founded front one.0 told one.2 in (
           two.0,
           lines_from (Some []) (bytes ++ piece),
           two.1.0,
           refused error (bytes ++ piece) (lines_from (Some []) (bytes ++ piece)) (inl refl),
-          subst (λ (ls : List (Option (List ℕ))). Answered (KeptStep tells left_since front) spelling (at_moment machine old) ls (at_moment two.0 new) w w'' [] two.1.0) (sym (lines_from-append (Some []) bytes piece ∙ ap (λ (h : Option (List ℕ)). lines_from (Some []) bytes ++ lines_from h piece) (sym held_is)))
-              (Answered-append (KeptStep tells left_since front) spelling (at_moment machine old) (lines_from (Some []) bytes) (at_moment one.0 mid) (lines_from held piece) (at_moment two.0 new) w w' w'' [] [] two.1.0 one.1 two.1.1),
+          subst (λ (ls : List (Option (List ℕ))). Answered (KeptStep founded left_since front) spelling (at_moment machine old) ls (at_moment two.0 new) w w'' [] two.1.0) (sym (lines_from-append (Some []) bytes piece ∙ ap (λ (h : Option (List ℕ)). lines_from (Some []) bytes ++ lines_from h piece) (sym held_is)))
+              (Answered-append (KeptStep founded left_since front) spelling (at_moment machine old) (lines_from (Some []) bytes) (at_moment one.0 mid) (lines_from held piece) (at_moment two.0 new) w w' w'' [] [] two.1.0 one.1 two.1.1),
           anything_left error two.1.0,
           two.2,
         );
@@ -247,15 +247,15 @@ module _ {P L : Type 0} (tells : Bool) (count_of : L → ℕ) (content : L → L
       → ServesInput tells count_of content may_leave left_since (stop_of error) bytes old new t t'' w w''
   cut_at_end error bytes held old mid new t t' t'' w w' w'' now held_is so_far took serves = record {
     took = subst (λ (bs : List ℕ). Appends t t'' bs) (append_none bytes) (Appends-trans t t' t'' bytes [] so_far.took took);
-    answers = λ front machine stands.
-        let one = so_far.answers front machine stands in
-        let two = serves front one.0 one.2 in (
+    answers = λ founded front machine told stands.
+        let one = so_far.answers founded front machine told stands in
+        let two = serves founded front one.0 told one.2 in (
           two.0,
           lines_of bytes,
           two.1.0,
           refused error bytes (lines_of bytes) (inr refl),
-          subst (λ (ls : List (Option (List ℕ))). Answered (KeptStep tells left_since front) spelling (at_moment machine old) ls (at_moment two.0 new) w w'' [] two.1.0) (ap (λ (h : Option (List ℕ)). lines_from (Some []) bytes ++ last_line h) held_is)
-              (Answered-append (KeptStep tells left_since front) spelling (at_moment machine old) (lines_from (Some []) bytes) (at_moment one.0 mid) (last_line held) (at_moment two.0 new) w w' w'' [] [] two.1.0 one.1 two.1.1),
+          subst (λ (ls : List (Option (List ℕ))). Answered (KeptStep founded left_since front) spelling (at_moment machine old) ls (at_moment two.0 new) w w'' [] two.1.0) (ap (λ (h : Option (List ℕ)). lines_from (Some []) bytes ++ last_line h) held_is)
+              (Answered-append (KeptStep founded left_since front) spelling (at_moment machine old) (lines_from (Some []) bytes) (at_moment one.0 mid) (last_line held) (at_moment two.0 new) w w' w'' [] [] two.1.0 one.1 two.1.1),
           anything_left error two.1.0,
           two.2,
         );

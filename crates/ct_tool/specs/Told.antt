@@ -1,5 +1,5 @@
 -- What serving lines does to the yard, the source and the sink.
-use Rattle.std.specs.Prelude.{◌≡◌, ◌⊎◌, ℕ, List, [], ◌++◌, Bool, Option, Some, Result, Ok, Err}
+use Rattle.std.specs.Prelude.{◌≡◌, ◌⊎◌, ℕ, List, [], ◌++◌, Bool, IsTrue, Option, Some, Result, Ok, Err}
 use Rattle.std.specs.Io.KnownBytes.{Appends}
 use Rattle.ct_transcript.specs.Transcript.{Answered}
 use Rattle.ct_yard.specs.declared.yard.Yard.{Yard}
@@ -25,7 +25,7 @@ at_moment machine yard = record { machine = machine; log = yard.log.device }
 
 -- A line is answered, and at each moment until the next a crash leaves each acknowledged transaction.
 abbrev pub KeptStep : {L : Type 0} → Bool → (L → L → List ℕ → Type 0) → List ℕ → Moment L → Option (List ℕ) → Reply → Moment L → Type 0
-KeptStep tells left_since front old line reply new = Step old.machine line reply new.machine × KeptThrough tells left_since front old.machine old.log new.machine new.log
+KeptStep founded left_since front old line reply new = Step old.machine line reply new.machine × KeptThrough founded left_since front old.machine old.log new.machine new.log
 
 -- replies that wait are put: all but those that still wait, or at an error a first part
 abbrev pub Puts : {E : Type 0} → Result Unit E → Option (List ℕ) → Option (List ℕ) → List ℕ → List ℕ → Type 0
@@ -34,14 +34,14 @@ Puts (Err _) old new waiting now = (part left : List ℕ) × Appends old new par
 
 -- lines are answered; at an error what is left of the replies is lost
 abbrev pub AnsweredBy : {L E : Type 0} → Bool → (L → L → List ℕ → Type 0) → List ℕ → Result Unit E → Moment L → List (Option (List ℕ)) → Moment L → Option (List ℕ) → Option (List ℕ) → List ℕ → List ℕ → Type 0
-AnsweredBy tells left_since front (Ok _) old lines new written now_written waiting now = Answered (KeptStep tells left_since front) spelling old lines new written now_written waiting now
-AnsweredBy tells left_since front (Err _) old lines new written now_written waiting now = (left : List ℕ) × Answered (KeptStep tells left_since front) spelling old lines new written now_written waiting left
+AnsweredBy founded left_since front (Ok _) old lines new written now_written waiting now = Answered (KeptStep founded left_since front) spelling old lines new written now_written waiting now
+AnsweredBy founded left_since front (Err _) old lines new written now_written waiting now = (left : List ℕ) × Answered (KeptStep founded left_since front) spelling old lines new written now_written waiting left
 
 -- a yard answers lines over a sink
 abbrev pub ServesLines : {P L E : Type 0} → Bool → (L → ℕ) → (L → List ℕ) → (L → List ℕ → Type 0) → (L → L → List ℕ → Type 0) → Result Unit E → Yard P L → List (Option (List ℕ)) → Yard P L → Option (List ℕ) → Option (List ℕ) → List ℕ → List ℕ → Type 0
 ServesLines tells count_of content may_leave left_since result old lines new written now_written waiting now =
-    (front : List ℕ) (machine : Machine) → StandsFor tells count_of content may_leave front machine old →
-    (next : Machine) × AnsweredBy tells left_since front result (at_moment machine old) lines (at_moment next new) written now_written waiting now × StandsFor tells count_of content may_leave front next new
+    (founded : Bool) (front : List ℕ) (machine : Machine) → (IsTrue founded → IsTrue tells) → StandsFor founded count_of content may_leave front machine old →
+    (next : Machine) × AnsweredBy founded left_since front result (at_moment machine old) lines (at_moment next new) written now_written waiting now × StandsFor founded count_of content may_leave front next new
 
 -- the lines that were answered when a session's input stopped: all; those that had ended; or, where the sink refused, either
 abbrev pub AreLines : Stop → List ℕ → List (Option (List ℕ)) → Type 0
@@ -70,14 +70,14 @@ HasStopCause NoRoom source source' sink sink' = (source' ≡ source) × (sink' �
 -- bytes were taken, and the lines that ended in them answered, with nothing waiting
 pub record SoFar {P L : Type 0} (tells : Bool) (count_of : L → ℕ) (content : L → List ℕ) (may_leave : L → List ℕ → Type 0) (left_since : L → L → List ℕ → Type 0) (bytes : List ℕ) (old new : Yard P L) (taken now_taken written now_written : Option (List ℕ)) : Type 0 where
   pub took : Appends taken now_taken bytes
-  pub answers : (front : List ℕ) (machine : Machine) → StandsFor tells count_of content may_leave front machine old →
-      (next : Machine) × Answered (KeptStep tells left_since front) spelling (at_moment machine old) (lines_from (Some []) bytes) (at_moment next new) written now_written [] [] × StandsFor tells count_of content may_leave front next new
+  pub answers : (founded : Bool) (front : List ℕ) (machine : Machine) → (IsTrue founded → IsTrue tells) → StandsFor founded count_of content may_leave front machine old →
+      (next : Machine) × Answered (KeptStep founded left_since front) spelling (at_moment machine old) (lines_from (Some []) bytes) (at_moment next new) written now_written [] [] × StandsFor founded count_of content may_leave front next new
 
 -- a session's input was served until it stopped
 pub record ServesInput {P L : Type 0} (tells : Bool) (count_of : L → ℕ) (content : L → List ℕ) (may_leave : L → List ℕ → Type 0) (left_since : L → L → List ℕ → Type 0) (stop : Stop) (bytes : List ℕ) (old new : Yard P L) (taken now_taken written now_written : Option (List ℕ)) : Type 0 where
   pub took : Appends taken now_taken bytes
-  pub answers : (front : List ℕ) (machine : Machine) → StandsFor tells count_of content may_leave front machine old →
-      (next : Machine) × (lines : List (Option (List ℕ))) × (left : List ℕ) × AreLines stop bytes lines × Answered (KeptStep tells left_since front) spelling (at_moment machine old) lines (at_moment next new) written now_written [] left × IsLeft stop left × StandsFor tells count_of content may_leave front next new
+  pub answers : (founded : Bool) (front : List ℕ) (machine : Machine) → (IsTrue founded → IsTrue tells) → StandsFor founded count_of content may_leave front machine old →
+      (next : Machine) × (lines : List (Option (List ℕ))) × (left : List ℕ) × AreLines stop bytes lines × Answered (KeptStep founded left_since front) spelling (at_moment machine old) lines (at_moment next new) written now_written [] left × IsLeft stop left × StandsFor founded count_of content may_leave front next new
 
 -- how a sink's refusal stops the input
 abbrev pub stop_of : SinkError → Stop
