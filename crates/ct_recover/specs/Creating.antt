@@ -3,6 +3,8 @@ use Rattle.std.specs.Prelude.{◌≡◌, ◌⊎◌, ℕ, List, [], ◌∷◌, �
 use Rattle.ct_definitions.specs.Histories.{History}
 use Rattle.ct_log.specs.Front.{front}
 use Rattle.ct_log.specs.Heads.{has_open_header}
+use Rattle.ct_recover.specs.declared.fault.OpenFault.{OpenFault}
+use Rattle.ct_recover.specs.declared.fault.OpenFault.TheVariants.{NotEmpty, Undone, BadLog, Device, Memory}
 
 -- the log of a store without transactions
 abbrev pub empty_log : List ℕ → List ℕ
@@ -11,6 +13,14 @@ empty_log id = front id 0 ++ 0 ∷ []
 -- the history of a store that was just made
 abbrev pub empty_history : History
 empty_history = record { base = []; base_number = 0; transactions = [] }
+
+-- why a store may not be made
+abbrev pub IsMakeFault : OpenFault → Type 0
+IsMakeFault NotEmpty = Unit {0}
+IsMakeFault Device = Unit {0}
+IsMakeFault Memory = Unit {0}
+IsMakeFault Undone = ⊥
+IsMakeFault (BadLog place) = ⊥
 
 -- the header's gate is not open, or the store is whole
 abbrev pub IsClosedOrWhole : List ℕ → List ℕ → Type 0

@@ -6,7 +6,7 @@ ghost use Rattle.ct_log.specs.Front.{is_id};
 ghost use Rattle.ct_log.specs.Heads.{has_open_header};
 ghost use Rattle.ct_log.specs.Reading.{IsRead};
 ghost use Rattle.ct_yard.specs.Kept.{empty_directory};
-ghost use Rattle.ct_recover.specs.Creating.{empty_log, IsClosedOrWhole};
+ghost use Rattle.ct_recover.specs.Creating.{empty_log, IsClosedOrWhole, IsMakeFault};
 ghost use Rattle.ct_recover.specs.Opening.{HasOpenCause};
 
 use crate::fault::OpenFault;
@@ -23,6 +23,7 @@ pub fn create_store<P: Disk, L: Disk>(
     id: &[u8],
 ) -> Result<(), OpenFault>
     requires id { IsTrue (is_id id.now) }
+    ensures kind { IfErr result (λ fault. IsMakeFault fault) }
     ensures not_empty { IsTrue L.tells → result ≡ Err OpenFault.NotEmpty → has_open_header (L.content log.old) ≡ true }
     ensures kept { IsTrue L.tells → has_open_header (L.content log.old) ≡ true → IsErr result × IsRead L.content L.may_leave L.left_since log.old log.new }
     ensures kept_pages { IsTrue L.tells → has_open_header (L.content log.old) ≡ true → pages.new ≡ pages.old }

@@ -1,2 +1,5 @@
-pub mod Tellings
 pub mod Causes
+pub mod Endings
+pub mod Growing
+pub mod Making
+pub mod Tellings

@@ -38,6 +38,14 @@ last_left held some = ap (λ (b : Bool). cond b (line_unfinished held ∷ []) []
 passed : {L : Type 0} (founded : Bool) (left_since : L → L → List ℕ → Type 0) (front : List ℕ) (moment : Moment L) (lines : List (Option (List ℕ))) → (text : List ℕ) × Served (KeptStep founded left_since front) spelling moment lines text moment
 passed founded left_since front moment lines = Served-passed (KeptStep founded left_since front) spelling no_memory (λ m line. (inl (refl, refl), inl refl)) moment lines
 
+refused : (error : SinkError) (bytes : List ℕ) (lines : List (Option (List ℕ))) → (lines ≡ lines_from (Some []) bytes) ⊎ (lines ≡ lines_of bytes) → AreLines (stop_of error) bytes lines
+refused Fault bytes lines either = either
+refused Memory bytes lines either = either
+
+anything_left : (error : SinkError) (left : List ℕ) → IsLeft (stop_of error) left
+anything_left Fault left = tt
+anything_left Memory left = tt
+
 module _ {P L : Type 0} (tells : Bool) (count_of : L → ℕ) (content : L → List ℕ) (may_leave : L → List ℕ → Type 0) (left_since : L → L → List ℕ → Type 0) where
   -- nothing answered yet
   pub none_served : (yard : Yard P L) (written : Option (List ℕ)) (waiting : List ℕ) → ServesLines {E = SinkError} tells count_of content may_leave left_since (Ok tt) yard [] yard written written waiting waiting
@@ -212,14 +220,6 @@ module _ {P L : Type 0} (tells : Bool) (count_of : L → ℕ) (content : L → L
           two.2,
         );
   }
-
-  refused : (error : SinkError) (bytes : List ℕ) (lines : List (Option (List ℕ))) → (lines ≡ lines_from (Some []) bytes) ⊎ (lines ≡ lines_of bytes) → AreLines (stop_of error) bytes lines
-  refused Fault bytes lines either = either
-  refused Memory bytes lines either = either
-
-  anything_left : (error : SinkError) (left : List ℕ) → IsLeft (stop_of error) left
-  anything_left Fault left = tt
-  anything_left Memory left = tt
 
   -- the sink refused in a piece
   pub cut : (error : SinkError) (bytes piece : List ℕ) (held : Option (List ℕ)) (old mid new : Yard P L) (t t' t'' w w' w'' : Option (List ℕ)) (now : List ℕ) → held ≡ held_after (Some []) bytes

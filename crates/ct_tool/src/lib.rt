@@ -3,12 +3,13 @@
 #![tactic(auto)]
 
 mod block;
+mod check;
+mod create;
 mod ended;
 mod exec;
 mod input;
 mod run;
-#[cfg(test)]
-mod tests;
+mod session;
 
 pub use ended::{Cause, Ended};
 pub use run::run_tool;
