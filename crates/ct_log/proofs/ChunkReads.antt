@@ -1,8 +1,10 @@
 -- What the first five bytes of a place tell of the chunk that is found there.
-use Rattle.std.proofs.Common.{◌≡◌, ◌+◌, ◌-◌, ◌^◌, ◌≤◌, ◌<◌, ℕ, zero, suc, min, List, [], ◌∷◌, ◌++◌, length, take, drop, get_or, ltb, eqb, replicate, sym, ap, ◌∙◌, inl, inr, arith, append_assoc, length-take, length-drop}
+use Rattle.std.proofs.Common.{◌≡◌, ◌+◌, ◌-◌, ◌^◌, ◌≤◌, ◌<◌, ℕ, zero, suc, min, List, [], ◌∷◌, ◌++◌, length, take, drop, get_or, ltb, eqb, replicate, sym, ap, ◌∙◌, subst, inl, inr, arith, append_assoc, length-take, length-drop}
 use Rattle.std.specs.Int.{w32, from_le_bytes}
+use Rattle.std.proofs.lemmas.Nat.{le_bytes_4}
 use Rattle.std.proofs.lemmas.Bool.{cases_lt, lt-ltb, le-ltb, eq-eqb, cond-true, cond-false}
 use Rattle.std.proofs.lemmas.List.{take-append-le, take-replicate, drop-replicate, take_min, take-take, drop-take, drop-drop, take-append-drop, replicate-append-replicate}
+use Rattle.ct_log.specs.Chunks.{length_bytes, BeginsWithChunk}
 use Rattle.ct_log.specs.Front.{zeros}
 use Rattle.ct_log.specs.Reading.{damage, chunk, nothing, chunk_in, found_in, log_bytes}
 
@@ -98,3 +100,32 @@ chunk_found (x ∷ rest) frame n told gate len whole =
 pub groups_read : (content groups : List ℕ) (place n : ℕ) → place + 5 + n ≤ 2 ^ 62 → groups ≡ take n (drop (place + 5) content) → take n (drop 5 (drop place (log_bytes content))) ≡ groups
 groups_read content groups place n fits is =
     ap (λ (l : List ℕ). take n l) (drop-drop 5 place (log_bytes content)) ∙ within_log content (place + 5) n fits ∙ sym is
+
+-- a length field is spelled as it was read
+length_spelled : (field : List ℕ) (n : ℕ) → length field ≡ 4 → ((k : ℕ) → get_or field k 0 < 256) → n ≡ from_le_bytes w32 field → length_bytes n ≡ field
+unfolding length_bytes
+length_spelled field n four each told = le_bytes_4 field n four each told
+
+-- the bytes of a chunk that is whole
+pub chunk_begins : (b frame groups : List ℕ) (n : ℕ) → frame ≡ take 5 (b ++ zeros 5) → ((k : ℕ) → get_or frame k 0 < 256) → get_or frame 0 0 ≡ 1 → n ≡ from_le_bytes w32 (drop 1 frame) → n < 2 ^ 32
+    → 5 + n ≤ length b → take n (drop 5 b) ≡ groups → BeginsWithChunk groups b
+chunk_begins [] frame groups n told bytes gate len small whole is = absurd (omega arith)
+chunk_begins (x ∷ rest) frame groups n told bytes gate len small whole is =
+    let is_open : x ≡ 1 = sym (ap (λ (l : List ℕ). get_or l 0 0) told) ∙ gate in
+    let field = take 4 rest in
+    let same : frame ≡ x ∷ field = told ∙ ap (λ (l : List ℕ). x ∷ l) (length_field rest (omega arith)) in
+    let each : (k : ℕ) → get_or field k 0 < 256 = λ k. subst (λ (l : List ℕ). get_or l (suc k) 0 < 256) same (bytes (suc k)) in
+    let told_len : n ≡ from_le_bytes w32 field = len ∙ ap (λ (l : List ℕ). from_le_bytes w32 (drop 1 l)) same in
+    let long : length groups ≡ n = ap length (sym is) ∙ length-take n (drop 4 rest) ∙ omega (arith, length-drop 4 rest) in
+    let spelled : length_bytes (length groups) ≡ field = ap length_bytes long ∙ length_spelled field n (omega (arith, length-take 4 rest)) each told_len in
+    record {
+      short = omega (arith, long);
+      behind = drop n (drop 4 rest);
+      parts =
+          ap (λ k. k ∷ rest) is_open
+          ∙ ap (λ (l : List ℕ). 1 ∷ l) (sym (take-append-drop 4 rest))
+          ∙ ap (λ (l : List ℕ). 1 ∷ field ++ l) (sym (take-append-drop n (drop 4 rest)))
+          ∙ ap (λ (l : List ℕ). 1 ∷ field ++ (l ++ drop n (drop 4 rest))) is
+          ∙ ap (λ (l : List ℕ). 1 ∷ l ++ (groups ++ drop n (drop 4 rest))) (sym spelled)
+          ∙ ap (λ (l : List ℕ). 1 ∷ l) (sym (append_assoc (length_bytes (length groups)) groups (drop n (drop 4 rest))));
+    }

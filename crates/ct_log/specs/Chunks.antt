@@ -48,6 +48,12 @@ pub record EndsAfter (text bytes : List ℕ) : Type 0 where
 abbrev pub IsShort : List ℕ → Type 0
 IsShort groups = length groups < 2 ^ 32
 
+-- These bytes begin with an open chunk of these groups.
+pub record BeginsWithChunk (groups bytes : List ℕ) : Type 0 where
+  pub short : IsShort groups
+  pub behind : List ℕ
+  pub parts : bytes ≡ open_chunk groups ++ behind
+
 -- These bytes hold a front and these chunks behind it, up to the first gate that is not open.
 pub record HasChunks (front : List ℕ) (chunks : List (List ℕ)) (bytes : List ℕ) : Type 0 where
   pub short : All IsShort chunks

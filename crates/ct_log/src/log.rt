@@ -2,7 +2,7 @@
 
 ghost use Rattle.std.specs.Prelude.{◌≡◌, ◌↔◌, ◌<◌, ◌≤◌, ◌+◌, ◌^◌, ◌++◌, [], ◌∷◌, List, ℕ, length, take, drop, IsTrue, OnOk, OnErr, IfOk, IfErr, IfSome, IsErrOf, MatchResult, Ok, Err};
 ghost use Rattle.ct_disk.specs.Disk.{Only, Rose};
-ghost use Rattle.ct_log.specs.Chunks.{EndsAfter};
+ghost use Rattle.ct_log.specs.Chunks.{BeginsWithChunk, EndsAfter};
 ghost use Rattle.ct_log.specs.Flow.{has_room, IsAtRest, SameFlow, Queued};
 ghost use Rattle.ct_log.specs.Front.{is_id, front};
 ghost use Rattle.ct_log.specs.Heads.{TellsHead, head_in, is_start};
@@ -72,6 +72,7 @@ impl<L: Disk> Log<L> {
         requires { place ≤ 2 ^ 62 }
         ensures found { IsTrue L.tells → Tells result place (found_in (drop place (log_bytes (L.content self.old.device)))) }
         ensures next { IfOk result (λ found. IfSome found (λ chunk. (place + 5 ≤ chunk.next) × (chunk.next ≤ 2 ^ 62))) }
+        ensures bytes { IsTrue L.tells → IfOk result (λ found. IfSome found (λ chunk. BeginsWithChunk chunk.groups (drop place (log_bytes (L.content self.old.device))))) }
         ensures flow { SameFlow self.old.flow self.new.flow }
         ensures read { IsTrue L.tells → IsRead L.content L.may_leave L.left_since self.old.device self.new.device }
         ensures size { L.size self.new.device ≡ L.size self.old.device }

@@ -1,8 +1,9 @@
 //! Reading a log, chunk by chunk.
 
-ghost use Rattle.std.specs.Prelude.{◌≡◌, ◌≤◌, ◌+◌, ◌^◌, ℕ, min, ◌++◌, IsTrue, IfOk, IfSome, IsErrOf, length, take, drop};
+ghost use Rattle.std.specs.Prelude.{◌≡◌, ◌≤◌, ◌<◌, ◌+◌, ◌^◌, ℕ, slice_index, min, ◌++◌, IsTrue, IfOk, IfSome, IsErrOf, length, take, drop};
 ghost use Rattle.std.specs.Int.{w32, from_le_bytes};
 ghost use Rattle.ct_disk.specs.Disk.{CountsFault, Rose};
+ghost use Rattle.ct_log.specs.Chunks.{BeginsWithChunk};
 ghost use Rattle.ct_log.specs.Front.{zeros};
 ghost use Rattle.ct_log.specs.Reading.{IsRead, Tells, found_in, log_bytes};
 
@@ -83,6 +84,7 @@ pub fn read_chunk<L: Disk>(
     requires { place ≤ 2 ^ 62 }
     ensures found { IsTrue L.tells → Tells result place (found_in (drop place (log_bytes (L.content device.old)))) }
     ensures next { IfOk result (λ found. IfSome found (λ chunk. (place + 5 ≤ chunk.next) × (chunk.next ≤ 2 ^ 62))) }
+    ensures bytes { IsTrue L.tells → IfOk result (λ found. IfSome found (λ chunk. BeginsWithChunk chunk.groups (drop place (log_bytes (L.content device.old))))) }
     ensures read { IsTrue L.tells → IsRead L.content L.may_leave L.left_since device.old device.new }
     ensures size { L.size device.new ≡ L.size device.old }
     ensures reads { L.reads device.new ≤ L.reads device.old + 2 }
@@ -119,7 +121,8 @@ fn read_frame<L: Disk>(device: &mut L, place: u64) -> Result<[u8; 5], DiskFault>
 
 /// The length of a chunk's groups.
 fn groups_len(frame: &[u8; 5]) -> u32
-    ensures { result ≡ from_le_bytes w32 (drop 1 frame.now) }
+    ensures len { result ≡ from_le_bytes w32 (drop 1 frame.now) }
+    ensures bytes { (k : ℕ) → slice_index frame.now k < 256 }
 {
     u32::from_le_bytes([frame[1], frame[2], frame[3], frame[4]])
 }
