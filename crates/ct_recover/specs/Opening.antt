@@ -1,12 +1,13 @@
 -- What opening finds on a log: a history up to the first gate that is not open, or the place of the first damage.
-use Rattle.std.specs.Prelude.{◌≡◌, ◌≢◌, ◌≤◌, ◌⊎◌, ◌+◌, ℕ, List, [], ◌∷◌, ◌++◌, length, Bool, true, false, not, ◌&&◌, ◌==◌, IsTrue, slice_get, Option, Some, None, Result, Ok, Err}
+use Rattle.std.specs.Prelude.{◌≡◌, ◌≢◌, ◌⊎◌, ◌+◌, ◌-◌, ◌^◌, ℕ, min, List, [], ◌++◌, length, All, Bool, true, false, not, ◌&&◌, ◌==◌, IsTrue, slice_get, Option, Some, None, Result, Ok, Err}
 use Rattle.ct_definitions.specs.declared.change.Transaction.{Transaction}
 use Rattle.ct_definitions.specs.Histories.{History, IsHistory, after, allows_all, last_number}
 use Rattle.ct_disk.specs.Disk.{Rose}
 use Rattle.ct_group.specs.Commit.{commit_text}
 use Rattle.ct_group.specs.Groups.{FitsTransaction}
+use Rattle.ct_log.specs.Front.{zeros}
 use Rattle.ct_log.specs.Heads.{head_in}
-use Rattle.ct_log.specs.Reading.{Found, nothing, chunk, damage, found_in, log_bytes}
+use Rattle.ct_log.specs.Reading.{nothing, chunk, damage, found_in, log_bytes}
 use Rattle.ct_log.specs.declared.head.Head.{Head}
 use Rattle.ct_yard.specs.declared.yard.Yard.{Yard}
 use Rattle.ct_yard.specs.Kept.{Founds}
@@ -16,6 +17,10 @@ use Rattle.ct_yard.specs.Yards.{StandsFor}
 use Rattle.ct_recover.specs.declared.fault.OpenFault.{OpenFault}
 use Rattle.ct_recover.specs.declared.fault.OpenFault.TheVariants.{NotEmpty, Undone, BadLog, Device, Memory}
 
+-- the bytes up to a place at least, with zeros for those that are missing: a missing gate is one that is not open
+abbrev pub filled_to : ℕ → List ℕ → List ℕ
+filled_to place bytes = bytes ++ zeros (place - length bytes)
+
 -- The log begins with this front, which founds the history; chunks of the history's transactions stand behind it, up to a place;
 -- and behind them these bytes.
 pub record IsReadTo (head : Head) (front : List ℕ) (history : History) (place : ℕ) (rest bytes : List ℕ) : Type 0 where
@@ -23,7 +28,7 @@ pub record IsReadTo (head : Head) (front : List ℕ) (history : History) (place 
   pub founds : Founds head front history
   pub in_chunks : InChunks history.transactions chunks
   pub up_to : place ≡ length (log_text front chunks)
-  pub parts : bytes ≡ log_text front chunks ++ rest
+  pub parts : filled_to head.start.place bytes ≡ log_text front chunks ++ rest
 
 -- a log that was read up to a chunk that is not open, or to its end
 pub record IsReadToEnd (head : Head) (front : List ℕ) (history : History) (place : ℕ) (bytes : List ℕ) : Type 0 where
@@ -44,6 +49,7 @@ pub record IsNoNext (history : History) (tail : List ℕ) : Type 0 where
 pub record HasBadGroup (history : History) (place : ℕ) (rest : List ℕ) (at : ℕ) : Type 0 where
   pub first : List Transaction
   pub tail : List ℕ
+  pub fit : All FitsTransaction first
   pub found : found_in rest ≡ chunk (groups_text first ++ tail)
   pub defined : IsHistory (extended history first)
   pub bad : IsNoNext (extended history first) tail
@@ -71,6 +77,8 @@ pub record Opens {P L : Type 0} (tells : Bool) (count_of : L → ℕ) (content :
   pub front : List ℕ
   pub history : History
   pub base : history.base ≡ []
+  -- each group has the next ordinal; past the last one there is none
+  pub next : yard.log.flow.next ≡ min (head.start.ordinal + length history.transactions) (2 ^ 63)
   pub read : IsTrue tells → IsReadToEnd head front history yard.log.flow.end (log_bytes (content log))
   pub stands : StandsFor (tells && is_closed (slice_get (content log) yard.log.flow.end)) count_of content may_leave front
       (opened_machine history (count_of yard.log.device) yard.log.flow.end yard.log.flow.next) yard

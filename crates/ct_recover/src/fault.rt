@@ -1,5 +1,9 @@
 //! Why a store was not made or not opened.
 
+ghost use Rattle.std.specs.Prelude.{◌≡◌};
+ghost use Rattle.ct_recover.specs.Faults.{fault_of};
+
+use ct_log::LogFault;
 use thiserror::Error;
 
 /// Why a store was not made or not opened.
@@ -20,4 +24,15 @@ pub enum OpenFault {
     /// There was no memory.
     #[error("out of memory")]
     Memory,
+}
+
+/// Why a log that can't be read is not opened.
+pub(crate) fn fault_of(fault: LogFault) -> OpenFault
+    ensures { result ≡ fault_of fault }
+{
+    match fault {
+        LogFault::Bad { at } => OpenFault::BadLog(at),
+        LogFault::Fault => OpenFault::Device,
+        LogFault::Memory => OpenFault::Memory,
+    }
 }

@@ -5,6 +5,7 @@
 mod create;
 mod fault;
 mod open;
+mod replay;
 
 pub use create::create_store;
 pub use fault::OpenFault;
