@@ -8,9 +8,9 @@ use Rattle.std.proofs.lemmas.List.{take_at, drop_at, take-append-le, drop-append
 use Rattle.std.proofs.lemmas.Nat.{from_le_bytes-to_le_bytes_8}
 use Rattle.std.proofs.lemmas.Option.{slice_get-get_or}
 use Rattle.ct_log.specs.Front.{zeros, signature, number_bytes, is_id, name_plate, header, front, front_with}
-use Rattle.ct_log.specs.Heads.{page_at, is_open, are_zero, before_zero, number_at, id_field, id_of, is_header, is_cell_open, start_of, is_start, is_cell, told_by, closed_head, made_head, open_head, head_in}
+use Rattle.ct_log.specs.Heads.{page_at, is_open, are_zero, before_zero, number_at, id_field, id_of, is_header, is_cell_open, start_of, is_start, is_cell, told_by, closed_head, made_head, open_head, head_in, has_open_header}
 use Rattle.ct_log.specs.declared.head.Head.{Head}
-use Rattle.ct_log.proofs.Fronts.{length-zeros, length-number_bytes, zeros-append-zeros, length-name_plate, id_short}
+use Rattle.ct_log.proofs.Fronts.{length-zeros, length-number_bytes, zeros-append-zeros, length-name_plate, front_parts, id_short}
 use Rattle.ct_log.proofs.HeadReads.{gate_on_page, pick}
 
 -- the head by its gate and its three pages
@@ -172,3 +172,9 @@ made_closed gate id base behind shut holds = made_pages id base gate holds behin
 
 pub made_opened : (id : List ℕ) (base : ℕ) (behind : List ℕ) → IsTrue (is_id id) → base ≤ 2 ^ 63 → head_in (front id base ++ behind) ≡ Ok (made_head id base)
 made_opened id base behind holds within = made_pages id base 1 holds behind ∙ head_is id base 1 holds within refl
+
+-- whether the header's gate is open is told by its byte
+pub made_gate : (gate : ℕ) (id : List ℕ) (base : ℕ) (behind : List ℕ) → length id ≤ 16 → has_open_header (front_with gate id base ++ behind) ≡ eqb gate 1
+made_gate gate id base behind short =
+    ap (λ (l : List ℕ). has_open_header l) (front_parts gate id base behind)
+    ∙ ap is_open (slice_get_at (name_plate id base) (zeros 4059 ++ zeros 8192 ++ behind) gate 36 (length-name_plate id base short))

@@ -51,6 +51,7 @@ pub struct Head {
 pub fn has_open_header<L: Disk>(device: &mut L) -> Result<bool, DiskFault>
     ensures open { IsTrue L.tells → IfOk result (λ is_open. is_open ≡ has_open_header (L.content device.old)) }
     ensures read { IsTrue L.tells → IsRead L.content L.may_leave L.left_since device.old device.new }
+    ensures calls { L.calls device.new ≤ L.calls device.old + 1 }
     ensures size { L.size device.new ≡ L.size device.old }
     ensures cause { CountsFault (L.faults device.old) (L.faults device.new) result }
 {

@@ -6,7 +6,7 @@ use Rattle.ct_definitions.specs.Histories.{History, Begins, last_number}
 use Rattle.ct_disk.specs.Disk.{AllImages, Rose as DiskRose}
 use Rattle.ct_link.specs.Faults.{Rose}
 use Rattle.ct_link.specs.Sink.{AppendsPart}
-use Rattle.ct_log.specs.Reading.{IsRead}
+use Rattle.ct_log.specs.Reading.{log_bytes}
 use Rattle.ct_log.specs.declared.head.Head.{Head}
 use Rattle.ct_transcript.specs.Transcript.{Answered}
 use Rattle.ct_yard.specs.declared.yard.Yard.{Yard}
@@ -51,7 +51,7 @@ pub record RanOver {P L : Type 0} (tells : Bool) (count_of : L → ℕ) (content
 -- a yard was opened from a log; where that holds a history as a store leaves it, the yard stands for this history
 pub record IsOpened {P L : Type 0} (tells : Bool) (count_of : L → ℕ) (content : L → List ℕ) (may_leave : L → List ℕ → Type 0) (log : L) (yard : Yard P L) : Type 0 where
   pub opens : Opens tells count_of content may_leave log yard
-  pub as_kept : IsTrue tells → (head : Head) (front : List ℕ) (history : History) → Founds head front history → HasTransactions front history.transactions (content log)
+  pub as_kept : IsTrue tells → (head : Head) (front : List ℕ) (history : History) → Founds head front history → HasTransactions front history.transactions (log_bytes (content log))
       → StandsFor tells count_of content may_leave front (opened_machine history (count_of yard.log.device) yard.log.flow.end yard.log.flow.next) yard
 
 -- `exec` opened the store and ran a session
