@@ -1,6 +1,8 @@
 -- What making a store leaves.
 use Rattle.std.specs.Prelude.{◌≡◌, ◌⊎◌, ℕ, List, [], ◌∷◌, ◌++◌, false}
 use Rattle.ct_definitions.specs.Histories.{History}
+use Rattle.ct_disk.specs.declared.fault.DiskError.{DiskError}
+use Rattle.ct_disk.specs.declared.fault.DiskError.TheVariants as Refused
 use Rattle.ct_log.specs.Front.{front}
 use Rattle.ct_log.specs.Heads.{has_open_header}
 use Rattle.ct_recover.specs.declared.fault.OpenFault.{OpenFault}
@@ -13,6 +15,11 @@ empty_log id = front id 0 ++ 0 ∷ []
 -- the history of a store that was just made
 abbrev pub empty_history : History
 empty_history = record { base = []; base_number = 0; transactions = [] }
+
+-- a refused call of a device is a device that failed, or want of memory
+abbrev pub make_fault : DiskError → OpenFault
+make_fault Refused.Fault = Device
+make_fault Refused.Memory = Memory
 
 -- why a store may not be made
 abbrev pub IsMakeFault : OpenFault → Type 0
