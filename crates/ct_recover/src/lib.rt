@@ -6,6 +6,8 @@ mod create;
 mod fault;
 mod open;
 mod replay;
+#[cfg(test)]
+mod tests;
 
 pub use create::create_store;
 pub use fault::OpenFault;
