@@ -10,6 +10,8 @@ mod exec;
 mod input;
 mod run;
 mod session;
+#[cfg(test)]
+mod tests;
 
 pub use ended::{Cause, Ended};
 pub use run::run_tool;
