@@ -38,6 +38,8 @@ pub record IsSession {L : Type 0} (founded : Bool) (may_leave : L → List ℕ �
   pub why : cause ≡ stopped_by stop end.halt
   pub begins : Begins (start.machine).history end.history
   pub acknowledged : (start.machine).acknowledged ≤ end.acknowledged
+  -- a session that was not halted has each of its transactions acknowledged
+  pub all : end.halt ≡ None → end.acknowledged ≡ last_number end.history
   pub kept : IsTrue founded → AllImages (HoldsPrefix front end.history end.acknowledged) (may_leave now)
 
 -- A session ran over a yard, from each moment that the running yard stands for.

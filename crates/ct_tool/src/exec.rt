@@ -27,7 +27,8 @@ pub(crate) fn exec<P: Disk, L: Disk, I: Source, O: Sink>(
     ensures kind { IsExecCause result.cause }
     ensures run { RanSession L.tells L.faults L.content L.may_leave L.left_since result.pages log result.log result.cause result.front (I.taken input.old) (I.taken input.new) (O.written out.old) (O.written out.new)
         ⊎ (RanNone result.cause result.front (I.count input.old) (I.count input.new) (I.taken input.old) (I.taken input.new) × Keeps (O.written out.old) (O.written out.new)
-        × (IsTrue P.tells → IsRead P.content P.may_leave P.left_since pages result.pages) × (IsTrue L.tells → IsRead L.content L.may_leave L.left_since log result.log)) }
+        × (IsTrue L.tells → IsRead L.content L.may_leave L.left_since log result.log)) }
+    ensures pages { IsTrue P.tells → IsRead P.content P.may_leave P.left_since pages result.pages }
     ensures undone { IsTrue L.tells → result.cause ≡ Cause.Undone → has_open_header (L.content log) ≡ false }
     ensures bad { IsTrue L.tells → (place : ℕ) → result.cause ≡ Cause.BadLog place → IsBad (log_bytes (L.content log)) place }
     ensures cause { HasRunCause result.cause (P.faults pages) (P.faults result.pages) (L.faults log) (L.faults result.log) (I.faults input.old) (I.faults input.new) (O.faults out.old) (O.faults out.new) }

@@ -37,7 +37,8 @@ pub fn run_tool<P: Disk, L: Disk, I: Source, O: Sink>(
     ensures exec { map string_bytes words.now ≡ codes "exec" ∷ [] →
         RanSession L.tells L.faults L.content L.may_leave L.left_since result.pages log result.log result.cause result.front (I.taken input.old) (I.taken input.new) (O.written out.old) (O.written out.new)
         ⊎ (RanNone result.cause result.front (I.count input.old) (I.count input.new) (I.taken input.old) (I.taken input.new) × Keeps (O.written out.old) (O.written out.new)
-        × (IsTrue P.tells → IsRead P.content P.may_leave P.left_since pages result.pages) × (IsTrue L.tells → IsRead L.content L.may_leave L.left_since log result.log)) }
+        × (IsTrue L.tells → IsRead L.content L.may_leave L.left_since log result.log)) }
+    ensures exec_pages { map string_bytes words.now ≡ codes "exec" ∷ [] → IsTrue P.tells → IsRead P.content P.may_leave P.left_since pages result.pages }
 
     // `create`: an empty store was made, and then each image that a crash may leave is this store.
     ensures create { (verb id : List ℕ) → map string_bytes words.now ≡ verb ∷ id ∷ [] → AskCreate (map string_bytes words.now) → MadeBy result.cause →

@@ -39,6 +39,7 @@ returns-clause-ran g c =
             why = c.by.ensures.cause ∙ c.cause_of.ensures ∙ ap (λ (h : Option HaltCause). stopped_by c.serve_input-stop.result h) ran.6.halt;
             begins = grown.begins;
             acknowledged = grown.later;
+            all = ran.6.acknowledged;
             kept = λ here. subst (λ d. AllImages (HoldsPrefix front (ran.0).history (ran.0).acknowledged) (g.L.Disk.may_leave d)) (sym same) (ran.6.left here);
           };
     }
