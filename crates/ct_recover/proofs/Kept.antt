@@ -2,7 +2,8 @@
 use Rattle.std.proofs.Common.{◌≡◌, ◌≢◌, ◌≤◌, ◌<◌, ◌+◌, ◌-◌, ◌^◌, ◌⊎◌, IsTrue, ℕ, zero, suc, Bool, true, false, not, cond, ◌&&◌, List, [], ◌∷◌, ◌++◌, length, map, flat_map, take, drop, slice_index_or, Option, Some, None, Ok, Err, inl, inr, refl, sym, ap, ap₂, ◌∙◌, subst, arith, append_assoc, length-append}
 use Rattle.std.specs.Prelude.{All, slice_get, nat_lt}
 use Rattle.std.proofs.lemmas.Bool.{cases_Bool, and_parts, ne_eqb, cond-true, cond-false}
-use Rattle.std.proofs.lemmas.List.{take_at, drop_at, take-append-drop, append-nil, map-append}
+use Rattle.std.proofs.lemmas.List.{take_at, drop_at, append-nil, map-append}
+use Rattle.std.proofs.Math.Seq.{take-append-add}
 use Rattle.std.proofs.lemmas.Grind.{flat_map-append}
 use Rattle.ct_definitions.specs.declared.change.Transaction.{Transaction}
 use Rattle.ct_definitions.specs.Changes.{State}
@@ -330,12 +331,6 @@ module _ (head : Head) (front : List ℕ) (history : History) (bytes : List ℕ)
   not_refused at (inl damaged) = let both : Err at ≡ Ok head = sym damaged ∙ head_told in cc both
   not_refused at (inr (head', front', history', place, rest, read, damaged)) = not_damaged head' front' history' place rest read at damaged
 
--- a byte of the front of some bytes
-closed_in_all : (bytes more : List ℕ) (k : ℕ) → is_closed (slice_get bytes k) ≡ true → is_closed (slice_get (bytes ++ more) k) ≡ true
-closed_in_all [] more k h = let none : ⊥ = cc h in absurd none
-closed_in_all (x ∷ bytes) more zero h = h
-closed_in_all (x ∷ bytes) more (suc k) h = closed_in_all bytes more k h
-
 and_true : (b : Bool) → (b && true) ≡ b
 and_true true = refl
 and_true false = refl
@@ -363,10 +358,27 @@ module _ (content_of_log : List ℕ) (head : Head) (front : List ℕ) (history :
       let fronts = same_fronts head front history bytes founds has o.head o.front o.history end to.rest to.read in
       let histories = same_history head front history bytes founds has o.head o.front o.history end to.rest to.read to.ends in
       let closed_bytes = closed_there head front history bytes founds has o.head o.front o.history end to.rest to.read to.ends in
-      let closed : is_closed (slice_get (content log) end) ≡ true =
-      ap (λ (l : List ℕ). is_closed (slice_get l end)) (is ∙ sym (take-append-drop (2 ^ 62) content_of_log)) ∙ closed_in_all bytes (drop (2 ^ 62) content_of_log) end closed_bytes in
-      let founded : (tells && is_closed (slice_get (content log) end)) ≡ tells = ap (λ b. tells && b) closed ∙ and_true tells in
+      let closed : is_closed (slice_get (log_bytes (content log)) end) ≡ true = ap (λ (l : List ℕ). is_closed (slice_get (log_bytes l) end)) is ∙ closed_bytes in
+      let founded : (tells && is_closed (slice_get (log_bytes (content log)) end)) ≡ tells = ap (λ b. tells && b) closed ∙ and_true tells in
       let machine : History → Machine = λ h. opened_machine h (count_of yard.log.device) end yard.log.flow.next in
       subst (λ b. StandsFor b count_of content may_leave front (machine history) yard) founded
-      (subst (λ (h : History). StandsFor (tells && is_closed (slice_get (content log) end)) count_of content may_leave front (machine h) yard) histories
-      (subst (λ (f : List ℕ). StandsFor (tells && is_closed (slice_get (content log) end)) count_of content may_leave f (machine o.history) yard) fronts o.stands))
+      (subst (λ (h : History). StandsFor (tells && is_closed (slice_get (log_bytes (content log)) end)) count_of content may_leave front (machine h) yard) histories
+      (subst (λ (f : List ℕ). StandsFor (tells && is_closed (slice_get (log_bytes (content log)) end)) count_of content may_leave f (machine o.history) yard) fronts o.stands))
+
+-- a history that a device holds stands within the log's limit
+pub within_limit : (front : List ℕ) (ts : List Transaction) (bytes : List ℕ) → HasTransactions front ts bytes → HasTransactions front ts (log_bytes bytes)
+within_limit front ts bytes has =
+    let rest = (has.ends).gate ∷ (has.ends).behind in
+    let more = 2 ^ 62 - length has.text - 1 in
+    let whole : 2 ^ 62 ≡ length has.text + suc more = omega (arith, has.within) in
+    record {
+      text = has.text;
+      is_text = has.is_text;
+      within = has.within;
+      ends = record {
+        gate = (has.ends).gate;
+        behind = take more (has.ends).behind;
+        is_closed = (has.ends).is_closed;
+        parts = ap (λ (l : List ℕ). take (2 ^ 62) l) (has.ends).parts ∙ ap (λ n. take n (has.text ++ rest)) whole ∙ take-append-add has.text rest (suc more);
+      };
+    }

@@ -35,6 +35,13 @@ closed_at (x ∷ bytes) (suc place) h =
       ends = record { gate = (below.ends).gate; behind = (below.ends).behind; is_closed = (below.ends).is_closed; parts = ap (λ (l : List ℕ). x ∷ l) (below.ends).parts };
     }
 
+-- a closed gate within a first part is one of the whole
+closed_in : (n : ℕ) (bytes : List ℕ) (place : ℕ) → is_closed (slice_get (take n bytes) place) ≡ true → is_closed (slice_get bytes place) ≡ true
+closed_in zero bytes place h = let none : ⊥ = cc h in absurd none
+closed_in (suc n) [] place h = let none : ⊥ = cc h in absurd none
+closed_in (suc n) (x ∷ bytes) zero h = h
+closed_in (suc n) (x ∷ bytes) (suc place) h = closed_in n bytes place h
+
 -- the text of a log that goes on behind its end
 pub text_read : (content : List ℕ) (head : Head) (front : List ℕ) (history : History) (end : ℕ) → (to : IsReadToEnd head front history end (log_bytes content)) → end < length content → end ≤ 2 ^ 62
     → take end content ≡ log_text front (to.read).chunks
@@ -49,7 +56,7 @@ module _ {P L : Type 0} (tells : Bool) (count_of : L → ℕ) (content : L → L
   pub opens : (log mid : L) (all : Opened L) (yard : Yard P L) → (IsTrue tells → content mid ≡ content log) → (IsTrue tells → Only (content log) (may_leave mid))
       → OpensLog tells count_of content may_leave left_since mid all → (IsTrue tells → content all.log.device ≡ content mid) → yard.log ≡ all.log
       → ((founded : Bool) (text : List ℕ) (history : History) → IsHistory history → all.number ≡ last_number history → all.state ≡ after history
-      → (IsTrue founded → IsLog content may_leave all.log) → (IsTrue founded → IsTextOf text history.transactions (durable_text content all.log))
+      → (IsTrue founded → IsLog content may_leave all.log) → (IsTrue founded → IsTextOf text history.transactions (durable_text content all.log)) → (IsTrue founded → all.log.flow.end < 2 ^ 62)
       → StandsFor founded count_of content may_leave text (opened_machine history (count_of all.log.device) all.log.flow.end all.log.flow.next) yard)
       → Opens tells count_of content may_leave log yard
   opens log mid all yard same only is device same_log stands =
@@ -57,11 +64,12 @@ module _ {P L : Type 0} (tells : Bool) (count_of : L → ℕ) (content : L → L
       let history = o.history in
       let front = o.front in
       let end = all.log.flow.end in
-      let closed = is_closed (slice_get (content log) end) in
+      let closed = is_closed (slice_get (log_bytes (content log)) end) in
       let founded = tells && closed in
       let read : IsTrue tells → IsReadToEnd o.head front history end (log_bytes (content log)) = λ here. subst (λ (l : List ℕ). IsReadToEnd o.head front history end (log_bytes l)) (same here) (o.read here) in
       let told : IsTrue founded → IsTrue tells = λ both. (and_parts tells closed both).0 in
-      let at : IsTrue founded → ClosedAt (content log) end = λ both. closed_at (content log) end (and_parts tells closed both).1 in
+      let at : IsTrue founded → ClosedAt (content log) end = λ both. closed_at (content log) end (closed_in (2 ^ 62) (content log) end (and_parts tells closed both).1) in
+      let small : IsTrue founded → end < 2 ^ 62 = λ both. omega (arith, (closed_at (log_bytes (content log)) end (and_parts tells closed both).1).within, length-take (2 ^ 62) (content log)) in
       let log_is : IsTrue founded → IsLog content may_leave all.log = λ both.
       (let here = told both in
       is.is_log here (subst (λ (l : List ℕ). EndsAfter (take end l) l) (sym (same here)) (at both).ends) (λ c left. only here c left ∙ sym (same here))) in
@@ -80,8 +88,8 @@ module _ {P L : Type 0} (tells : Bool) (count_of : L → ℕ) (content : L → L
         base = o.base;
         next = ap (λ (l : Log L). l.flow.next) same_log ∙ o.next;
         read = λ here. subst (λ (l : Log L). IsReadToEnd o.head front history l.flow.end (log_bytes (content log))) (sym same_log) (read here);
-        stands = subst (λ (l : Log L). StandsFor (tells && is_closed (slice_get (content log) l.flow.end)) count_of content may_leave front (opened_machine history (count_of l.device) l.flow.end l.flow.next) yard) (sym same_log)
-            (stands founded front history o.defined o.number o.state log_is text);
+        stands = subst (λ (l : Log L). StandsFor (tells && is_closed (slice_get (log_bytes (content log)) l.flow.end)) count_of content may_leave front (opened_machine history (count_of l.device) l.flow.end l.flow.next) yard) (sym same_log)
+            (stands founded front history o.defined o.number o.state log_is text small);
       }
 
 -- what a call did that did not fail

@@ -80,7 +80,7 @@ pub record Opens {P L : Type 0} (tells : Bool) (count_of : L → ℕ) (content :
   -- each group has the next ordinal; past the last one there is none
   pub next : yard.log.flow.next ≡ min (head.start.ordinal + length history.transactions) (2 ^ 63)
   pub read : IsTrue tells → IsReadToEnd head front history yard.log.flow.end (log_bytes (content log))
-  pub stands : StandsFor (tells && is_closed (slice_get (content log) yard.log.flow.end)) count_of content may_leave front
+  pub stands : StandsFor (tells && is_closed (slice_get (log_bytes (content log)) yard.log.flow.end)) count_of content may_leave front
       (opened_machine history (count_of yard.log.device) yard.log.flow.end yard.log.flow.next) yard
 
 -- a refusal of a store that is in order: a device failed, or memory was wanted

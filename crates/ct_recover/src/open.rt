@@ -39,7 +39,7 @@ pub fn open_store<P: Disk, L: Disk>(
 
     // A store that holds a history is opened with it.
     ensures kept { IsTrue L.tells → (head : Head) (front : List ℕ) (history : History) → Founds head front history
-        → HasTransactions front history.transactions (log_bytes (L.content log)) → OpensAs L.tells L.faults L.content L.may_leave front history result }
+        → HasTransactions front history.transactions (L.content log) → OpensAs L.tells L.faults L.content L.may_leave front history result }
     ensures settled { IfOk result (λ yard. IsSettled yard) }
     ensures running { IfOk result (λ yard. yard.halt ≡ None) }
 

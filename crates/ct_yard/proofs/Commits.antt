@@ -1,5 +1,5 @@
 -- What a commit makes of the machine that a yard stands for, by how far it has come.
-use Rattle.std.proofs.Common.{◌≡◌, ◌≤◌, ◌<◌, ◌+◌, ◌^◌, ◌⊎◌, inl, inr, ℕ, List, [], ◌∷◌, ◌++◌, length, Bool, true, false, ◌&&◌, ◌||◌, IsTrue, Some, None, Result, Ok, Err, refl, sym, ap, ap₂, ◌∙◌, subst, arith}
+use Rattle.std.proofs.Common.{◌≡◌, ◌≤◌, ◌<◌, ◌+◌, ◌^◌, ◌⊎◌, inl, inr, ℕ, List, [], ◌∷◌, ◌++◌, length, Bool, true, false, ◌&&◌, ◌||◌, IsTrue, Some, None, Result, Ok, Err, refl, sym, ap, ap₂, ◌∙◌, subst, arith, length-append}
 use Rattle.std.specs.Prelude.{nat_lt}
 use Rattle.std.proofs.lemmas.Bool.{ltb-true, lt-ltb}
 use Rattle.ct_definitions.specs.declared.change.Change.{Change}
@@ -20,7 +20,8 @@ use Rattle.ct_log.specs.Stages.{Stands}
 use Rattle.ct_log.specs.declared.flow.Flow.{Flow}
 use Rattle.ct_log.specs.declared.log.Log.{Log}
 use Rattle.ct_log.specs.declared.stage.Stage.TheVariants.{Idle}
-use Rattle.ct_log.proofs.Flushes.{left_at}
+use Rattle.ct_log.proofs.Flushes.{left_at, length-text}
+use Rattle.ct_log.proofs.Steps.{length-open_chunk}
 use Rattle.ct_yard.specs.declared.yard.CommitFault.{CommitFault}
 use Rattle.ct_yard.specs.declared.yard.CommitFault.TheVariants.{Memory, Halted}
 use Rattle.ct_yard.specs.declared.yard.Yard.{Yard}
@@ -95,9 +96,9 @@ free_cause cause before now is later = subst (λ (why : HaltCause). HasHaltCause
 -- a yard whose log is at rest and holds a history stands for it
 pub assembled : {P L : Type 0} (tells : Bool) (count_of : L → ℕ) (content : L → List ℕ) (may_leave : L → List ℕ → Type 0) (new : Yard P L) (front : List ℕ) (history : History)
     → new.halt ≡ None → IsAtRest new.log.flow → IsHistory history → new.front ≡ last_number history → new.state ≡ after history
-    → (IsTrue tells → IsLog content may_leave new.log) → (IsTrue tells → IsTextOf front history.transactions (durable_text content new.log))
+    → (IsTrue tells → IsLog content may_leave new.log) → (IsTrue tells → IsTextOf front history.transactions (durable_text content new.log)) → (IsTrue tells → new.log.flow.end < 2 ^ 62)
     → StandsFor tells count_of content may_leave front (opened_machine history (count_of new.log.device) new.log.flow.end new.log.flow.next) new
-assembled tells count_of content may_leave new front history runs rest defined numbered state log text = record {
+assembled tells count_of content may_leave new front history runs rest defined numbered state log text small = record {
   halt = runs;
   number = numbered;
   state = λ _. state;
@@ -108,7 +109,7 @@ assembled tells count_of content may_leave new front history runs rest defined n
   acknowledged = λ _. refl;
   log = log;
   text = λ told _. text told;
-  left = λ told c now. whole_held front history (durable_text content new.log) c (last_number history) (omega arith) (text told) (left_at content may_leave new.log Idle (log told) rest.stage c now);
+  left = λ told c now. whole_held front history (durable_text content new.log) c (last_number history) (omega arith) (text told) (omega (arith, small told, length-text content may_leave new.log (log told))) (left_at content may_leave new.log Idle (log told) rest.stage c now);
 }
 
 module _ {P L : Type 0} (tells : Bool) (count_of : L → ℕ) (content : L → List ℕ) (may_leave : L → List ℕ → Type 0) (left_since : L → L → List ℕ → Type 0)
@@ -175,6 +176,18 @@ module _ {P L : Type 0} (tells : Bool) (count_of : L → ℕ) (content : L → L
         first_of true b c h = refl
         first_of false b c h = h
 
+    -- the log ends within its limit, with the group too
+    end_below : old.log.flow.end + 5 + length group < 2 ^ 62
+    end_below = ltb-true (old.log.flow.end + 5 + length group) (2 ^ 62) (last_of (nat_lt old.front (2 ^ 63)) (nat_lt old.log.flow.next (2 ^ 63)) (nat_lt (old.log.flow.end + 5 + length group) (2 ^ 62)) room)
+      where
+        last_of : (a b c : Bool) → (a && b && c) ≡ true → c ≡ true
+        last_of true true c h = h
+        last_of true false c h = let none : ⊥ = cc h in absurd none
+        last_of false b c h = let none : ⊥ = cc h in absurd none
+
+    longer_below : IsTrue tells → length (durable_text content old.log ++ open_chunk group) < 2 ^ 62
+    longer_below told = omega (arith, end_below, length-text content may_leave old.log (stands.log told), length-append (durable_text content old.log) (open_chunk group), length-open_chunk group)
+
     fits_here : FitsTransaction next
     fits_here =
         let number : t.number ≡ old.front + 1 = ap (λ (x : Transaction). x.number) made in
@@ -200,7 +213,7 @@ module _ {P L : Type 0} (tells : Bool) (count_of : L → ℕ) (content : L → L
 
     -- whatever stands for the text or the longer one is kept
     either : IsTrue tells → (c : List ℕ) → Stands (durable_text content old.log) group c → HoldsPrefix front here machine.acknowledged c
-    either told c is = either_held front machine.history change (durable_text content old.log) group c machine.acknowledged (omega (arith, known)) (stands.text told is_running) (longer told) is
+    either told c is = either_held front machine.history change (durable_text content old.log) group c machine.acknowledged (omega (arith, known)) (stands.text told is_running) (longer told) (longer_below told) is
 
     through : (IsTrue tells → IsLog content may_leave old.log → LeavesOnly left_since (Stands (durable_text content old.log) group) old.log.device mid.log.device)
         → IsTrue tells → LeavesOnly left_since (HoldsPrefix front here machine.acknowledged) old.log.device mid.log.device
@@ -211,7 +224,7 @@ module _ {P L : Type 0} (tells : Bool) (count_of : L → ℕ) (content : L → L
     written_text written told = subst (λ (l : List ℕ). IsTextOf front here.transactions l) (sym (written.text told (stands.log told))) (longer told)
 
     written_left : IsWritten tells count_of content may_leave left_since group old mid → (least : ℕ) → least ≤ last_number here → IsTrue tells → (c : List ℕ) → may_leave mid.log.device c → HoldsPrefix front here least c
-    written_left written least from told c now = whole_held front here (durable_text content mid.log) c least from (written_text written told)
+    written_left written least from told c now = whole_held front here (durable_text content mid.log) c least from (written_text written told) (omega (arith, end_below, written.end, length-text content may_leave mid.log (written.log told (stands.log told))))
         (left_at content may_leave mid.log Idle (written.log told (stands.log told)) (written.at_rest).stage c now)
 
     acknowledged_within : machine.acknowledged ≤ last_number here

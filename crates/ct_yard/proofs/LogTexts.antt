@@ -50,34 +50,34 @@ text_more front ts t text fits short is =
 
 -- bytes that end behind a log's text hold the history of its transactions
 pub holds_at : (front : List ℕ) (history : History) (ts : List Transaction) (text bytes : List ℕ) (least number : ℕ) → least ≤ number → number ≤ last_number history → up_to_number history number ≡ ts
-    → IsTextOf front ts text → EndsAfter text bytes → HoldsPrefix front history least bytes
-holds_at front history ts text bytes least number from within same is ends = record {
+    → IsTextOf front ts text → length text < 2 ^ 62 → EndsAfter text bytes → HoldsPrefix front history least bytes
+holds_at front history ts text bytes least number from within same is small ends = record {
   number = number;
   from_least = from;
   within = within;
-  has = record { text = text; is_text = subst (λ (l : List Transaction). IsTextOf front l text) (sym same) is; ends = ends };
+  has = record { text = text; is_text = subst (λ (l : List Transaction). IsTextOf front l text) (sym same) is; within = small; ends = ends };
 }
 
 -- all of it
-pub whole_held : (front : List ℕ) (history : History) (text bytes : List ℕ) (least : ℕ) → least ≤ last_number history → IsTextOf front history.transactions text → EndsAfter text bytes → HoldsPrefix front history least bytes
-whole_held front history text bytes least from is ends =
+pub whole_held : (front : List ℕ) (history : History) (text bytes : List ℕ) (least : ℕ) → least ≤ last_number history → IsTextOf front history.transactions text → length text < 2 ^ 62 → EndsAfter text bytes → HoldsPrefix front history least bytes
+whole_held front history text bytes least from is small ends =
     let all : last_number history - history.base_number ≡ length history.transactions = omega arith in
     let same : up_to_number history (last_number history) ≡ history.transactions =
     ap (λ n. take n history.transactions) all ∙ ap (λ (l : List Transaction). take (length history.transactions) l) (sym (append-nil history.transactions)) ∙ take_at history.transactions [] (length history.transactions) refl in
-    holds_at front history history.transactions text bytes least (last_number history) from (omega arith) same is ends
+    holds_at front history history.transactions text bytes least (last_number history) from (omega arith) same is small ends
 
 -- all but the last
-pub fewer_held : (front : List ℕ) (history : History) (change : Change) (text bytes : List ℕ) (least : ℕ) → least ≤ last_number history → IsTextOf front history.transactions text → EndsAfter text bytes → HoldsPrefix front (with_change history change) least bytes
-fewer_held front history change text bytes least from is ends =
+pub fewer_held : (front : List ℕ) (history : History) (change : Change) (text bytes : List ℕ) (least : ℕ) → least ≤ last_number history → IsTextOf front history.transactions text → length text < 2 ^ 62 → EndsAfter text bytes → HoldsPrefix front (with_change history change) least bytes
+fewer_held front history change text bytes least from is small ends =
     let t = next_transaction history change in
     let n : last_number history - history.base_number ≡ length history.transactions = omega arith in
     let same : up_to_number (with_change history change) (last_number history) ≡ history.transactions =
     ap (λ k. take k (history.transactions ++ t ∷ [])) n ∙ take_at history.transactions (t ∷ []) (length history.transactions) refl in
-    holds_at front (with_change history change) history.transactions text bytes least (last_number history) from (omega (arith, length-append history.transactions (t ∷ []))) same is ends
+    holds_at front (with_change history change) history.transactions text bytes least (last_number history) from (omega (arith, length-append history.transactions (t ∷ []))) same is small ends
 
 -- the log with the transaction or without it
 pub either_held : (front : List ℕ) (history : History) (change : Change) (text group bytes : List ℕ) (least : ℕ) → least ≤ last_number history → IsTextOf front history.transactions text
-    → IsTextOf front (with_change history change).transactions (text ++ open_chunk group) → Stands text group bytes → HoldsPrefix front (with_change history change) least bytes
-either_held front history change text group bytes least from is longer (inl ends) = fewer_held front history change text bytes least from is ends
-either_held front history change text group bytes least from is longer (inr ends) =
-    whole_held front (with_change history change) (text ++ open_chunk group) bytes least (omega (arith, from, length-append history.transactions (next_transaction history change ∷ []))) longer ends
+    → IsTextOf front (with_change history change).transactions (text ++ open_chunk group) → length (text ++ open_chunk group) < 2 ^ 62 → Stands text group bytes → HoldsPrefix front (with_change history change) least bytes
+either_held front history change text group bytes least from is longer small (inl ends) = fewer_held front history change text bytes least from is (omega (arith, small, length-append text (open_chunk group))) ends
+either_held front history change text group bytes least from is longer small (inr ends) =
+    whole_held front (with_change history change) (text ++ open_chunk group) bytes least (omega (arith, from, length-append history.transactions (next_transaction history change ∷ []))) longer small ends

@@ -1,5 +1,5 @@
 -- What a log holds: commits in chunks, up to the first gate that is not open.
-use Rattle.std.specs.Prelude.{◌≡◌, ◌≤◌, ◌-◌, ℕ, List, ◌++◌, map, flat_map, take, All}
+use Rattle.std.specs.Prelude.{◌≡◌, ◌≤◌, ◌<◌, ◌-◌, ◌^◌, ℕ, List, ◌++◌, length, map, flat_map, take, All}
 use Rattle.ct_definitions.specs.declared.change.Transaction.{Transaction}
 use Rattle.ct_definitions.specs.Histories.{History, last_number}
 use Rattle.ct_group.specs.Commit.{commit_text}
@@ -30,6 +30,8 @@ pub record IsTextOf (front : List ℕ) (transactions : List Transaction) (text :
 pub record HasTransactions (front : List ℕ) (transactions : List Transaction) (bytes : List ℕ) : Type 0 where
   pub text : List ℕ
   pub is_text : IsTextOf front transactions text
+  -- a log ends at 2^62
+  pub within : length text < 2 ^ 62
   pub ends : EndsAfter text bytes
 
 -- the transactions of a history up to a number

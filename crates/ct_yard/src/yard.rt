@@ -70,7 +70,7 @@ impl<P: Disk, L: Disk> Yard<P, L> {
         // Where its log holds the history, it stands for it.
         ensures stands { (founded : Bool) (text : List ℕ) (history : History) → IsHistory history → front ≡ last_number history → state ≡ after history
             → (IsTrue founded → IsLog L.content L.may_leave log)
-            → (IsTrue founded → IsTextOf text history.transactions (durable_text L.content log))
+            → (IsTrue founded → IsTextOf text history.transactions (durable_text L.content log)) → (IsTrue founded → log.flow.end < 2 ^ 62)
             → StandsFor founded L.faults L.content L.may_leave text (opened_machine history (L.faults log.device) log.flow.end log.flow.next) result }
     {
         Yard {

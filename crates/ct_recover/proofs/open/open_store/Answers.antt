@@ -6,7 +6,7 @@ use Rattle.ct_log.specs.declared.log.Log.{Log}
 use Rattle.ct_log.proofs.HeadReads.{IsRead-then}
 use Rattle.ct_recover.specs.Opening.{IsBad}
 use Rattle.ct_recover.proofs.Yards.{opens, of_ok}
-use Rattle.ct_recover.proofs.Kept.{kept_yard, kept_refusal}
+use Rattle.ct_recover.proofs.Kept.{kept_yard, kept_refusal, within_limit}
 use Rattle.ct_recover.proofs.open.open_store.Goals as goal
 
 pub returns-then-is_err-clause-bad : goal.returns-then-is_err-clause-bad
@@ -26,7 +26,7 @@ returns-in-Ok-clause-open g c = λ here. ap has_open_header (sym (c.sync-2.ensur
 
 pub returns-in-Ok-clause-kept : goal.returns-in-Ok-clause-kept
 returns-in-Ok-clause-kept g c = λ here head front history founds has.
-    kept_yard (g.L.Disk.content c.args.log) head front history founds has g.L.Disk.tells g.L.Disk.faults g.L.Disk.content g.L.Disk.may_leave c.args.log c.assemble.result here refl (returns-in-Ok-clause-opened g c)
+    kept_yard (g.L.Disk.content c.args.log) head front history founds (within_limit front history.transactions (g.L.Disk.content c.args.log) has) g.L.Disk.tells g.L.Disk.faults g.L.Disk.content g.L.Disk.may_leave c.args.log c.assemble.result here refl (returns-in-Ok-clause-opened g c)
 
 pub returns-in-Ok-clause-log : goal.returns-in-Ok-clause-log
 returns-in-Ok-clause-log g c = λ here.
@@ -45,5 +45,5 @@ returns-in-Err-clause-bad g c = λ here place is. subst (λ (l : List ℕ). IsBa
 
 pub returns-in-Err-clause-kept : goal.returns-in-Err-clause-kept
 returns-in-Err-clause-kept g c = λ here head front history founds has.
-    kept_refusal (g.L.Disk.content c.args.log) head front history founds has c.in-Err.fault c.in-Err.ensures.not_empty
+    kept_refusal (g.L.Disk.content c.args.log) head front history founds (within_limit front history.transactions (g.L.Disk.content c.args.log) has) c.in-Err.fault c.in-Err.ensures.not_empty
     (λ is. ap has_open_header (sym (c.sync-2.ensures.content here)) ∙ c.in-Err.ensures.undone here is) (λ place is. returns-in-Err-clause-bad g c here place is)
