@@ -25,8 +25,8 @@ const PAGE: u64 = 4096;
 /// Makes a store without files on two devices. `NotEmpty` comes exactly where the gate of the log's header is open,
 /// and then nothing is changed. The page device is written first, then the log, and last the header's gate is opened.
 ///
-/// Once the log's first sync has ended, its ninth call, a stop or a failed call leaves the gate closed or the store
-/// whole. Before that a crash may leave any bytes of the new header.
+/// The log's eighth call is its first sync. From the ninth on, which writes the gate, a stop or a failed call leaves
+/// the gate closed or the store whole; before that a crash may leave any bytes of the new header.
 pub fn create_store<P: Disk, L: Disk>(
     pages: &mut P,
     log: &mut L,

@@ -6,6 +6,7 @@ use Rattle.std.proofs.lemmas.Bool.{eqb-true}
 use Rattle.ct_definitions.specs.Validity.{is_name, is_name_byte, is_between}
 use Rattle.ct_definitions.specs.declared.definition.TheConstants.{LONGEST_NAME}
 use Rattle.ct_log.specs.Front.{is_id as is_log_id}
+use Rattle.ct_log.specs.Reading.{log_bytes}
 use Rattle.ct_recover.specs.Opening.{is_closed}
 use Rattle.ct_recover.specs.declared.fault.OpenFault.{OpenFault}
 use Rattle.ct_recover.specs.declared.fault.OpenFault.TheVariants as Open
@@ -13,7 +14,7 @@ use Rattle.ct_words.specs.Commands.{AskCreate, is_id, is_shelf_name, is_option}
 use Rattle.ct_tool.specs.declared.ended.Cause.{Cause}
 use Rattle.ct_tool.specs.declared.ended.Cause.TheVariants.{Done, Usage, Unbuilt, Undone, NotEmpty, BadLog, BadPage, Limit, Device, Memory, Source, Sink, Long}
 use Rattle.ct_tool.specs.Ends.{open_cause}
-use Rattle.ct_tool.specs.Runs.{IsPutCause, IsSessionCause, IsExecCause, IsCreateCause}
+use Rattle.ct_tool.specs.Runs.{IsOpenCause, IsPutCause, IsSessionCause, IsExecCause, IsCreateCause}
 
 pub put_is_not_bad : {A : Type 0} (cause : Cause) (place : ℕ) → IsPutCause cause → cause ≡ BadLog place → A
 put_is_not_bad cause place kind same = absurd (subst (λ (c : Cause). IsPutCause c) same kind)
@@ -90,10 +91,10 @@ session_is_not_undone cause kind same = absurd (subst (λ (c : Cause). IsSession
 
 -- whether an opened yard is founded
 abbrev pub founded : Bool → List ℕ → ℕ → Bool
-founded tells content end = tells && is_closed (slice_get content end)
+founded tells content end = tells && is_closed (slice_get (log_bytes content) end)
 
 pub founded_tells : (tells : Bool) (content : List ℕ) (end : ℕ) → IsTrue (founded tells content end) → IsTrue tells
-founded_tells tells content end has = and_left tells (is_closed (slice_get content end)) has
+founded_tells tells content end has = and_left tells (is_closed (slice_get (log_bytes content) end)) has
 
 -- the words that make a store are two, and the second is an id
 pub create_words : {S : Type 0} (text : S → List ℕ) (words : List S) (word : S) → AskCreate (map text words) → word ≡ slice_index_or words 1 word
@@ -104,3 +105,11 @@ create_words text (verb ∷ id ∷ []) word asks is =
     let same : word ≡ id = is in
     (text verb, ap (λ (w : List ℕ). text verb ∷ w ∷ []) (sym (ap text same)), subst (λ w. IsTrue (is_id (text w))) (sym same) asks.1)
 create_words text (verb ∷ id ∷ more ∷ words) word asks is = absurd asks
+
+-- why no session ran
+pub open_why : (fault : OpenFault) → (fault ≡ Open.NotEmpty → ⊥) → IsOpenCause (open_cause fault)
+open_why Open.NotEmpty full = full refl
+open_why Open.Undone full = tt
+open_why (Open.BadLog place) full = tt
+open_why Open.Device full = tt
+open_why Open.Memory full = tt

@@ -3,10 +3,10 @@ use Rattle.std.specs.Prelude.{◌≡◌, ◌⊎◌, ◌≤◌, ℕ, List, [], �
 use Rattle.std.specs.Io.KnownBytes.{Appends, Keeps}
 use Rattle.ct_definitions.specs.Changes.{State}
 use Rattle.ct_definitions.specs.Histories.{History, Begins, last_number}
+use Rattle.ct_laws.specs.Cut.{history_up_to}
 use Rattle.ct_disk.specs.Disk.{AllImages, Rose as DiskRose}
 use Rattle.ct_link.specs.Faults.{Rose}
 use Rattle.ct_link.specs.Sink.{AppendsPart}
-use Rattle.ct_log.specs.Reading.{log_bytes}
 use Rattle.ct_log.specs.declared.head.Head.{Head}
 use Rattle.ct_transcript.specs.Transcript.{Answered}
 use Rattle.ct_yard.specs.declared.yard.Yard.{Yard}
@@ -41,6 +41,8 @@ pub record IsSession {L : Type 0} (founded : Bool) (may_leave : L → List ℕ �
   -- a session that was not halted has each of its transactions acknowledged
   pub all : end.halt ≡ None → end.acknowledged ≡ last_number end.history
   pub kept : IsTrue founded → AllImages (HoldsPrefix front end.history end.acknowledged) (may_leave now)
+  -- and so it is of both devices, where the page device has the directory
+  pub pair : IsTrue founded → Kept (λ p. p ≡ empty_directory) (may_leave now) front end.history end.acknowledged
 
 -- A session ran over a yard, from each moment that the running yard stands for.
 pub record RanOver {P L : Type 0} (tells : Bool) (count_of : L → ℕ) (content : L → List ℕ) (may_leave : L → List ℕ → Type 0) (left_since : L → L → List ℕ → Type 0) (yard : Yard P L) (now : L) (cause : Cause) (number : ℕ) (taken now_taken written now_written : Option (List ℕ)) : Type 0 where
@@ -53,7 +55,7 @@ pub record RanOver {P L : Type 0} (tells : Bool) (count_of : L → ℕ) (content
 -- a yard was opened from a log; where that holds a history as a store leaves it, the yard stands for this history
 pub record IsOpened {P L : Type 0} (tells : Bool) (count_of : L → ℕ) (content : L → List ℕ) (may_leave : L → List ℕ → Type 0) (log : L) (yard : Yard P L) : Type 0 where
   pub opens : Opens tells count_of content may_leave log yard
-  pub as_kept : IsTrue tells → (head : Head) (front : List ℕ) (history : History) → Founds head front history → HasTransactions front history.transactions (log_bytes (content log))
+  pub as_kept : IsTrue tells → (head : Head) (front : List ℕ) (history : History) → Founds head front history → HasTransactions front history.transactions (content log)
       → StandsFor tells count_of content may_leave front (opened_machine history (count_of yard.log.device) yard.log.flow.end yard.log.flow.next) yard
 
 -- `exec` opened the store and ran a session
@@ -63,8 +65,52 @@ pub record RanSession {P L : Type 0} (tells : Bool) (count_of : L → ℕ) (cont
   pub same_pages : pages ≡ yard.pages
   pub session : RanOver tells count_of content may_leave left_since yard now cause number taken now_taken written now_written
 
+-- A store stays kept: each pair of images recovers a prefix of a later history, which goes on from the history up to a number
+-- that was kept before, and has each acknowledged transaction.
+pub record StaysKept (page_images log_images : List ℕ → Type 0) (front : List ℕ) (history : History) (least : ℕ) : Type 0 where
+  pub number : ℕ
+  pub kept_before : least ≤ number
+  pub later : History
+  pub begins : Begins (history_up_to number history) later
+  pub acknowledged : ℕ
+  pub from_least : least ≤ acknowledged
+  pub kept : Kept page_images log_images front later acknowledged
+
+-- a store could not be opened, or there was no memory
+abbrev pub IsOpenCause : Cause → Type 0
+IsOpenCause Done = ⊥
+IsOpenCause Usage = ⊥
+IsOpenCause Unbuilt = ⊥
+IsOpenCause Undone = Unit {0}
+IsOpenCause NotEmpty = ⊥
+IsOpenCause (BadLog place) = Unit {0}
+IsOpenCause (BadPage page) = ⊥
+IsOpenCause Limit = ⊥
+IsOpenCause Device = Unit {0}
+IsOpenCause Memory = Unit {0}
+IsOpenCause Source = ⊥
+IsOpenCause Sink = ⊥
+IsOpenCause Long = ⊥
+
+-- the words were no command, or one that is not built yet
+abbrev pub IsWordCause : Cause → Type 0
+IsWordCause Done = ⊥
+IsWordCause Usage = Unit {0}
+IsWordCause Unbuilt = Unit {0}
+IsWordCause Undone = ⊥
+IsWordCause NotEmpty = ⊥
+IsWordCause (BadLog place) = ⊥
+IsWordCause (BadPage page) = ⊥
+IsWordCause Limit = ⊥
+IsWordCause Device = ⊥
+IsWordCause Memory = ⊥
+IsWordCause Source = ⊥
+IsWordCause Sink = ⊥
+IsWordCause Long = ⊥
+
 -- no session ran: nothing was taken
 pub record RanNone (cause : Cause) (number count now_count : ℕ) (taken now_taken : Option (List ℕ)) : Type 0 where
+  pub why : IsOpenCause cause
   pub none : number ≡ 0
   pub took : now_count ≡ count
   pub kept : Keeps taken now_taken

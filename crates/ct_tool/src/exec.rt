@@ -1,12 +1,15 @@
 //! `exec`: the store opened, and one session over the input.
 
-ghost use Rattle.std.specs.Prelude.{◌≡◌, ◌⊎◌, ◌<◌, ◌≤◌, ◌+◌, ◌^◌, ℕ, false, IsTrue};
+ghost use Rattle.std.specs.Prelude.{◌≡◌, ◌⊎◌, ◌<◌, ◌≤◌, ◌+◌, ◌^◌, ℕ, List, false, IsTrue};
 ghost use Rattle.std.specs.Io.KnownBytes.{IsAtEnd, Keeps};
+ghost use Rattle.ct_definitions.specs.Histories.{History};
 ghost use Rattle.ct_log.specs.Heads.{has_open_header};
+ghost use Rattle.ct_log.specs.declared.head.Head.{Head};
+ghost use Rattle.ct_yard.specs.Kept.{Founds, Kept};
 ghost use Rattle.ct_log.specs.Reading.{IsRead, log_bytes};
 ghost use Rattle.ct_recover.specs.Opening.{IsBad};
 ghost use Rattle.ct_tool.specs.Ends.{status_of};
-ghost use Rattle.ct_tool.specs.Runs.{RanSession, RanNone, IsExecCause, HasRunCause};
+ghost use Rattle.ct_tool.specs.Runs.{RanSession, RanNone, StaysKept, IsExecCause, HasRunCause};
 
 use crate::ended::{Cause, Ended, open_cause};
 use crate::session::{Room, run_session};
@@ -29,6 +32,9 @@ pub(crate) fn exec<P: Disk, L: Disk, I: Source, O: Sink>(
         ⊎ (RanNone result.cause result.front (I.count input.old) (I.count input.new) (I.taken input.old) (I.taken input.new) × Keeps (O.written out.old) (O.written out.new)
         × (IsTrue L.tells → IsRead L.content L.may_leave L.left_since log result.log)) }
     ensures pages { IsTrue P.tells → IsRead P.content P.may_leave P.left_since pages result.pages }
+    // A store that was kept stays so: a stop at the end leaves a prefix of the run's history with each acknowledged transaction.
+    ensures kept { IsTrue P.tells → IsTrue L.tells → (head : Head) (front : List ℕ) (history : History) (least : ℕ) → Founds head front history → history.base_number ≤ least
+        → Kept (P.may_leave pages) (L.may_leave log) front history least → StaysKept (P.may_leave result.pages) (L.may_leave result.log) front history least }
     ensures undone { IsTrue L.tells → result.cause ≡ Cause.Undone → has_open_header (L.content log) ≡ false }
     ensures bad { IsTrue L.tells → (place : ℕ) → result.cause ≡ Cause.BadLog place → IsBad (log_bytes (L.content log)) place }
     ensures cause { HasRunCause result.cause (P.faults pages) (P.faults result.pages) (L.faults log) (L.faults result.log) (I.faults input.old) (I.faults input.new) (O.faults out.old) (O.faults out.new) }

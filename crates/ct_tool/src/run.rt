@@ -3,14 +3,17 @@
 ghost use Rattle.std.specs.Prelude.{◌≡◌, ◌≢◌, ◌⊎◌, ◌<◌, ◌≤◌, ◌+◌, ◌^◌, ◌∷◌, [], ℕ, List, Some, None, true, false, map, codes, IsTrue, string_bytes};
 ghost use Rattle.std.specs.Io.KnownBytes.{IsAtEnd, Keeps};
 ghost use Rattle.ct_disk.specs.Disk.{AllImages};
+ghost use Rattle.ct_definitions.specs.Histories.{History};
 ghost use Rattle.ct_log.specs.Heads.{has_open_header};
+ghost use Rattle.ct_log.specs.declared.head.Head.{Head};
+ghost use Rattle.ct_yard.specs.Kept.{Founds, Kept};
 ghost use Rattle.ct_log.specs.Reading.{IsRead, log_bytes};
 ghost use Rattle.ct_recover.specs.Creating.{IsClosedOrWhole};
 ghost use Rattle.ct_recover.specs.Opening.{IsBad};
 ghost use Rattle.ct_words.specs.Commands.{Asks, AskCreate, is_id};
 ghost use Rattle.ct_words.specs.declared.commands.Command.TheVariants.{Unbuilt as Other};
 ghost use Rattle.ct_tool.specs.Ends.{status_of};
-ghost use Rattle.ct_tool.specs.Runs.{RanSession, RanNone, Checked, IsMade, MadeBy, PutsOrKeeps, IsPutCause, HasRunCause};
+ghost use Rattle.ct_tool.specs.Runs.{RanSession, RanNone, StaysKept, Checked, IsMade, MadeBy, PutsOrKeeps, IsCreateCause, IsOpenCause, IsWordCause, HasRunCause};
 
 use crate::check::check;
 use crate::create::create;
@@ -38,11 +41,15 @@ pub fn run_tool<P: Disk, L: Disk, I: Source, O: Sink>(
         RanSession L.tells L.faults L.content L.may_leave L.left_since result.pages log result.log result.cause result.front (I.taken input.old) (I.taken input.new) (O.written out.old) (O.written out.new)
         ⊎ (RanNone result.cause result.front (I.count input.old) (I.count input.new) (I.taken input.old) (I.taken input.new) × Keeps (O.written out.old) (O.written out.new)
         × (IsTrue L.tells → IsRead L.content L.may_leave L.left_since log result.log)) }
+    // A store that was kept at the start is kept at the end, by whatever was acknowledged.
+    ensures exec_kept { map string_bytes words.now ≡ codes "exec" ∷ [] → IsTrue P.tells → IsTrue L.tells → (head : Head) (front : List ℕ) (history : History) (least : ℕ) → Founds head front history → history.base_number ≤ least
+        → Kept (P.may_leave pages) (L.may_leave log) front history least → StaysKept (P.may_leave result.pages) (L.may_leave result.log) front history least }
     ensures exec_pages { map string_bytes words.now ≡ codes "exec" ∷ [] → IsTrue P.tells → IsRead P.content P.may_leave P.left_since pages result.pages }
 
     // `create`: an empty store was made, and then each image that a crash may leave is this store.
     ensures create { (verb id : List ℕ) → map string_bytes words.now ≡ verb ∷ id ∷ [] → AskCreate (map string_bytes words.now) → MadeBy result.cause →
         IsMade P.tells P.content P.may_leave L.tells L.content L.may_leave id result.pages result.log }
+    ensures create_ends { AskCreate (map string_bytes words.now) → IsCreateCause result.cause }
     ensures create_left { (verb id : List ℕ) → map string_bytes words.now ≡ verb ∷ id ∷ [] → AskCreate (map string_bytes words.now) → IsTrue L.tells → L.calls log + 8 < L.calls result.log
         → AllImages (IsClosedOrWhole id) (L.may_leave result.log) }
     ensures create_kept { AskCreate (map string_bytes words.now) → IsTrue L.tells → has_open_header (L.content log) ≡ true →
@@ -52,9 +59,12 @@ pub fn run_tool<P: Disk, L: Disk, I: Source, O: Sink>(
     // `check`: the store was opened and counted, and nothing changed.
     ensures check { map string_bytes words.now ≡ codes "check" ∷ [] →
         Checked L.tells L.faults L.content L.may_leave result.pages log result.log result.cause result.front (O.written out.old) (O.written out.new)
-        ⊎ ((IsPutCause result.cause → result.cause ≡ Cause.Memory) × (result.front ≡ 0) × Keeps (O.written out.old) (O.written out.new)) }
+        ⊎ (IsOpenCause result.cause × (result.front ≡ 0) × Keeps (O.written out.old) (O.written out.new)) }
     ensures check_kept { map string_bytes words.now ≡ codes "check" ∷ [] →
         (IsTrue P.tells → IsRead P.content P.may_leave P.left_since pages result.pages) × (IsTrue L.tells → IsRead L.content L.may_leave L.left_since log result.log) }
+
+    // Other words change nothing.
+    ensures nothing { IsWordCause result.cause → (result.pages ≡ pages) × (result.log ≡ log) × (result.front ≡ 0) × Keeps (I.taken input.old) (I.taken input.new) × Keeps (O.written out.old) (O.written out.new) }
 
     // Why it ended so.
     ensures usage { result.cause ≡ Cause.Usage → Asks (map string_bytes words.now) None }

@@ -1,4 +1,5 @@
-use Rattle.std.proofs.Common.{◌≡◌, ℕ, sym, ◌∙◌, subst}
+use Rattle.std.proofs.Common.{◌≡◌, ℕ, Some, sym, ap, ◌∙◌, subst}
+use Rattle.ct_words.specs.declared.commands.Command.{Command}
 use Rattle.ct_tool.proofs.Endings.{create_is_not_bad, log_id}
 use Rattle.ct_tool.proofs.run.run_tool.Goals as goal
 
@@ -13,3 +14,7 @@ returns-in-Some-Unbuilt-clause-bad_log g c = λ tells place same. let none : ⊥
 
 pub returns-in-None-clause-bad_log : goal.returns-in-None-clause-bad_log
 returns-in-None-clause-bad_log g c = λ tells place same. let none : ⊥ = cc (sym c.by-in-None.ensures.cause ∙ same) in absurd none
+
+pub returns-in-Some-Unbuilt-clause-exec_kept : goal.returns-in-Some-Unbuilt-clause-exec_kept
+returns-in-Some-Unbuilt-clause-exec_kept g c = λ words.
+    let none : ⊥ = cc (sym (ap (λ (command : Command). Some command) c.in-Some-Unbuilt.field-0-is) ∙ c.in-Some-Unbuilt.ensures.exec words) in absurd none

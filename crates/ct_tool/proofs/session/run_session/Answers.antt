@@ -41,6 +41,9 @@ returns-clause-ran g c =
             acknowledged = grown.later;
             all = ran.6.acknowledged;
             kept = λ here. subst (λ d. AllImages (HoldsPrefix front (ran.0).history (ran.0).acknowledged) (g.L.Disk.may_leave d)) (sym same) (ran.6.left here);
+            pair = λ here p l is left_l.
+                let held = ran.6.left here l (subst (λ d. g.L.Disk.may_leave d l) same left_l) in
+                (held.number, held.from_least, held.within, record { directory = is; has = held.has });
           };
     }
 
