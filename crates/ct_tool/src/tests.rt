@@ -34,6 +34,18 @@ fn run(
     input: &mut MemSource,
     out: &mut MemSink,
 ) -> Result<(Cause, Store), NoMemory> {
+    let (cause, _front, store) = run_to_front(alloc, line, store, input, out)?;
+    Ok((cause, store))
+}
+
+// the same, with the number of the last transaction
+fn run_to_front(
+    alloc: Global,
+    line: &str,
+    store: Store,
+    input: &mut MemSource,
+    out: &mut MemSink,
+) -> Result<(Cause, u64, Store), NoMemory> {
     let mut words = Vec::new(alloc);
     for word in line.split(' ') {
         words.push(String::from_str(alloc, word)?)?;
@@ -44,9 +56,9 @@ fn run(
         cause,
         pages,
         log,
-        front: _,
+        front,
     } = run_tool(alloc, &words, pages, log, input, out);
-    Ok((cause, Store { pages, log }))
+    Ok((cause, front, Store { pages, log }))
 }
 
 // devices that hold nothing
@@ -94,8 +106,13 @@ fn a_store_is_made_opened_and_checked(rt: HostRuntime) -> Result<(), Fail> {
     let (cause, store, out) = run_on(rt.alloc(), "create shop", empty(rt.alloc()), b"")?;
     assert_eq!(rt; (cause, out.bytes()), (Cause::Done, b"OK 0\n".as_slice()));
     assert_eq!(rt; store.pages.bytes().len(), 4096);
-    let (cause, store, out) = run_on(rt.alloc(), "exec", store, b"")?;
-    assert_eq!(rt; (cause, out.bytes()), (Cause::Done, b"".as_slice()));
+    let mut input = MemSource::new(rt.alloc(), b"")?;
+    let mut out = MemSink::new(rt.alloc());
+    let (cause, front, store) = run_to_front(rt.alloc(), "exec", store, &mut input, &mut out)?;
+    assert_eq!(rt;
+        (cause, front, out.bytes()),
+        (Cause::Done, 0, b"".as_slice())
+    );
     let (cause, store, out) = run_on(rt.alloc(), "exec", store, LINES)?;
     assert_eq!(rt; (cause, out.bytes()), (Cause::Done, REPLIES.as_slice()));
     assert_eq!(rt; store.log.bytes().len(), 12389);
