@@ -1,8 +1,6 @@
 //! A log in memory: made, flushed, crashed in the middle of a flush, opened and read.
 
-ghost use Rattle.std.specs.Prelude.{◌≡◌, ◌<◌, ◌+◌, IsTrue, IfOk, length};
-ghost use Rattle.ct_log.specs.Flow.{has_room};
-ghost use Rattle.ct_log.specs.Log.{IsLog};
+ghost use Rattle.std.specs.Prelude.{◌<◌, ◌+◌, length};
 
 use crate::{
     Chunk, FlushAt, Log, LogFault, Start, has_open_header, is_id, make_log, open_gate, read_chunk,
@@ -14,9 +12,7 @@ use std::alloc::Global;
 use std::test::Fail;
 
 // An open log with no chunks.
-fn new_log<L: Disk + Drop>(alloc: Global, mut device: L) -> Result<Log<L>, DiskError>
-    ensures { IsTrue L.tells → IfOk result (λ log. IsLog L.content L.may_leave log) }
-{
+fn new_log<L: Disk + Drop>(alloc: Global, mut device: L) -> Result<Log<L>, DiskError> {
     make_log(&mut device, b"LOG", 7)?;
     open_gate(&mut device)?;
     Ok(Log::begin(alloc, device))
@@ -25,8 +21,6 @@ fn new_log<L: Disk + Drop>(alloc: Global, mut device: L) -> Result<Log<L>, DiskE
 // Adds a group where there is room. Answers whether there was.
 fn add<L: Disk>(log: &mut Log<L>, group: &[u8]) -> Result<bool, NoMemory>
     requires some { 0 < length group.now }
-    requires log { IsTrue L.tells → IsLog L.content L.may_leave log.old }
-    ensures { IsTrue L.tells → IsLog L.content L.may_leave log.new }
 {
     if !log.has_room(group.len()) {
         return Ok(false);
@@ -37,10 +31,7 @@ fn add<L: Disk>(log: &mut Log<L>, group: &[u8]) -> Result<bool, NoMemory>
 }
 
 // Makes a step of a flush where a group is not durable.
-fn step<L: Disk>(log: &mut Log<L>) -> Result<Option<FlushAt>, DiskError>
-    requires { IsTrue L.tells → IsLog L.content L.may_leave log.old }
-    ensures { IsTrue L.tells → IsLog L.content L.may_leave log.new }
-{
+fn step<L: Disk>(log: &mut Log<L>) -> Result<Option<FlushAt>, DiskError> {
     if log.is_flushed() {
         return Ok(None);
     }
@@ -49,11 +40,8 @@ fn step<L: Disk>(log: &mut Log<L>) -> Result<Option<FlushAt>, DiskError>
 }
 
 // Makes this many steps of flushes, or fewer where each group is durable.
-fn run<L: Disk>(log: &mut Log<L>, count: usize) -> Result<(), DiskError>
-    requires { IsTrue L.tells → IsLog L.content L.may_leave log.old }
-    ensures { IsTrue L.tells → IsLog L.content L.may_leave log.new }
-{
-    'steps: for _ in 0..count {
+fn run<L: Disk>(log: &mut Log<L>, count: usize) -> Result<(), DiskError> {
+    for _ in 0..count {
         step(log)?;
     }
     Ok(())
@@ -197,10 +185,8 @@ fn a_log_is_opened_read_and_gone_on_with(rt: HostRuntime) -> Result<(), Fail> {
     assert_eq!(rt; (log.durable(), log.next(), log.end()), (2, 3, 12304));
     assert!(rt; log.has_room(5));
     assert_eq!(rt; log.append(b"three")?, 3);
-    for _ in 0..4 {
-        assert!(rt; !log.is_flushed());
-        log.flush_step()?;
-    }
+    run(&mut log, 4)?;
+    assert!(rt; log.is_flushed());
     assert_eq!(rt;
         log.into_device().bytes().get(12288..),
         Some(b"\x01\x03\0\0\0one\x01\x03\0\0\0two\x01\x05\0\0\0three\0".as_slice())
