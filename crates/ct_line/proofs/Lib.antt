@@ -5,4 +5,5 @@ pub mod NumberWords
 pub mod Options
 pub mod Places
 pub mod Spelled
+pub mod SpelledLines
 pub mod Spellings

@@ -1,5 +1,5 @@
 -- How calls are spelled, said from the call.
-use Rattle.std.specs.Prelude.{◌≡◌, ◌≢◌, ℕ, ◌+◌, ◌*◌, ◌/◌, ◌%◌, ◌^◌, ◌<◌, List, [], ◌∷◌, ◌++◌, map, Bool, true, false, IsTrue, Option, Some, None, Ok, codes}
+use Rattle.std.specs.Prelude.{◌≡◌, ◌≢◌, ℕ, ◌+◌, ◌*◌, ◌/◌, ◌%◌, ◌^◌, ◌<◌, ◌≤◌, List, length, [], ◌∷◌, ◌++◌, map, Bool, true, false, IsTrue, Option, Some, None, Result, Ok, Err, codes}
 use Rattle.std.specs.Char.{is_ascii_hexdigit, digit_value, digit_char}
 use Rattle.std.specs.Fmt.{decimal}
 use Rattle.std.specs.List.{AllByRecursion, flat_map}
@@ -7,6 +7,10 @@ use Rattle.ct_definitions.specs.Validity.{is_name}
 use Rattle.ct_definitions.specs.declared.definition.Mode.{Mode}
 use Rattle.ct_definitions.specs.declared.definition.Mode.TheVariants.{Reg, Ureg, Int, Sgn}
 use Rattle.ct_text.specs.declared.word.Word.{Word}
+use Rattle.ct_text.specs.Words.{HasWords}
+use Rattle.ct_line.specs.declared.line.TheConstants.{LONGEST_LINE}
+use Rattle.ct_line.specs.declared.line.LineFault.{LineFault}
+use Rattle.ct_line.specs.declared.line.LineFault.TheVariants as faults
 use Rattle.ct_line.specs.declared.call.Call.{Call}
 use Rattle.ct_line.specs.declared.call.Call.TheVariants as calls
 use Rattle.ct_line.specs.declared.call.LockMode.{LockMode}
@@ -193,3 +197,15 @@ HasSpelling = (call : Call) → Fits call → IsSpelled call (words_of call)
 -- what words ask for is what they spell
 abbrev pub ReadIsSpelled : Type 0
 ReadIsSpelled = (call : Call) (words : List Word) (end : ℕ) → call_of end Command words ≡ Ok call → IsSpelled call (map (λ word. word.bytes) words)
+
+-- ---- lines
+
+-- the line is short enough and has words, and they spell the call
+abbrev pub SpellsCall : List ℕ → Call → Type 0
+SpellsCall line call = (length line ≤ LONGEST_LINE) × (words : List Word) × HasWords 0 line words × IsSpelled call (map (λ word. word.bytes) words)
+
+-- the fact holds of an answer, unless that is want of memory
+abbrev pub OrMemory : Result Call LineFault → Type 0 → Type 0
+OrMemory (Ok call) P = P
+OrMemory (Err (faults.Bad at)) P = P
+OrMemory (Err faults.Memory) P = Unit {0}

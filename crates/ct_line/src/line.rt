@@ -1,8 +1,9 @@
 //! Reading a whole line: the call that it asks for, or the place where it leaves the grammar.
 //! What a line asks for is said in `specs/Grammar.antt`.
 
-ghost use Rattle.std.specs.Prelude.{◌≡◌};
+ghost use Rattle.std.specs.Prelude.{◌≡◌, IfOk, Ok};
 ghost use Rattle.ct_line.specs.declared.reading.Reading.TheVariants.{Command, Target, AddImage, RewriteImage, Script};
+ghost use Rattle.ct_line.specs.Calls.{SpellsCall, OrMemory};
 ghost use Rattle.ct_line.specs.Grammar.{next, whole_call, call_of, command_of, with_file, fault_at, place_of_missing, Goes, Gives, IsRead};
 
 use crate::call::{Call, Search};
@@ -204,7 +205,11 @@ fn place_of_missing(line: &[u8], words: &[Word]) -> usize
 /// The call that a line asks for, or the place where the line leaves the grammar.
 /// The line is given without its LF and the CR before it.
 pub fn read_line(alloc: Global, line: &[u8]) -> Result<Call, LineFault>
-    ensures { IsRead line.now result }
+    // The line asks for this call, or leaves the grammar there.
+    ensures exact { IsRead line.now result }
+    // An answered call is one that the line spells, and a line that spells a call is answered by it.
+    ensures spelled { IfOk result (SpellsCall line.now) }
+    ensures call { (call : Call) → SpellsCall line.now call → OrMemory result (result ≡ Ok call) }
 {
     if line.len() > LONGEST_LINE {
         return Err(LineFault::Bad { at: LONGEST_LINE });
