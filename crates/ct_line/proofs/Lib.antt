@@ -1,4 +1,5 @@
 pub mod Back
+pub mod BadLines
 pub mod Created
 pub mod HexWords
 pub mod NumberWords
