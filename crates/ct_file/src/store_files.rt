@@ -1,7 +1,7 @@
 //! The two files of a store, in its folder.
 //! Their lock keeps a second program out.
 
-ghost use Rattle.std.specs.Prelude.{IfOk};
+ghost use Rattle.std.specs.Prelude.{◌≡◌, IfOk, IfErr};
 ghost use Rattle.ct_file.specs.Files.{IsFresh};
 
 use crate::file_disk::FileDisk;
@@ -23,12 +23,22 @@ pub enum OpenError {
 }
 
 impl From<io::Error> for OpenError {
+    ghost use Rattle.std.specs.Prelude.{◌≡◌};
+    ghost use Rattle.ct_file.specs.declared.store_files.OpenError.TheVariants.{Device};
+
+    ghost from_gives = { λ _ error. error ≡ Device };
+
     fn from(_error: io::Error) -> OpenError {
         OpenError::Device
     }
 }
 
 impl From<AllocError> for OpenError {
+    ghost use Rattle.std.specs.Prelude.{◌≡◌};
+    ghost use Rattle.ct_file.specs.declared.store_files.OpenError.TheVariants.{Memory};
+
+    ghost from_gives = { λ _ error. error ≡ Memory };
+
     fn from(_refusal: AllocError) -> OpenError {
         OpenError::Memory
     }
@@ -42,7 +52,9 @@ pub struct StoreFiles {
 }
 
 /// Makes the folder, whose parent is to be there, unless there is one.
-pub fn make_folder<R: Files>(files: &R, folder: &str) -> Result<(), OpenError> {
+pub fn make_folder<R: Files>(files: &R, folder: &str) -> Result<(), OpenError>
+    ensures device { IfErr result (λ error. error ≡ OpenError.Device) }
+{
     match fs::create_dir(files, folder) {
         Err(error) if error.kind() != io::ErrorKind::AlreadyExists => Err(OpenError::Device),
         _ => Ok(()),

@@ -1,10 +1,8 @@
 -- Words that ask for a call spell it.
-use Rattle.std.proofs.Common.{◌≡◌, ℕ, ◌^◌, ◌<◌, Bool, true, false, cond, List, [], ◌∷◌, ◌⊎◌, inl, inr, map, Option, Some, None, Ok, Err, refl, ap, subst, ◌∙◌}
+use Rattle.std.proofs.Common.{◌≡◌, ℕ, ◌^◌, ◌<◌, true, List, [], ◌∷◌, inl, inr, map, Option, Some, None, Ok, Err, refl, sym, ap, subst, ◌∙◌}
 use Rattle.std.specs.Prelude.{codes}
 use Rattle.std.specs.Option.{option_map, option_map_or, ok_or}
-use Rattle.std.specs.Str.{bytes_eq}
 use Rattle.std.specs.Fmt.{decimal}
-use Rattle.std.proofs.lemmas.Slice.Eq.{bytes_eq-Decides}
 use Rattle.ct_definitions.specs.Validity.{is_name}
 use Rattle.ct_text.specs.declared.word.Word.{Word}
 use Rattle.ct_line.specs.declared.call.Call.{Call}
@@ -18,48 +16,16 @@ use Rattle.ct_line.specs.declared.call.Search.TheVariants.{Get, Gte, Gt, Lte, Lt
 use Rattle.ct_line.specs.declared.call.NewFile.{NewFile}
 use Rattle.ct_line.specs.declared.reading.OfFile.{OfFile}
 use Rattle.ct_line.specs.declared.reading.OfFile.TheVariants as ofs
-use Rattle.ct_line.specs.declared.reading.Creating.{Creating}
 use Rattle.ct_line.specs.declared.reading.Creating.TheVariants.{Kind}
 use Rattle.ct_line.specs.declared.reading.Reading.{Reading}
 use Rattle.ct_line.specs.declared.reading.Reading.TheVariants as reads
 use Rattle.ct_line.specs.Table.{bare_call, walk_of, search_of, walk_or_search, of_file, lock_of, number_of, name_of}
-use Rattle.ct_line.specs.Grammar.{next, whole_call, call_of, created, next_of_create, call_or_file, command_of, with_file}
+use Rattle.ct_line.specs.Grammar.{next, whole_call, call_of, call_or_file, command_of, with_file}
 use Rattle.ct_line.specs.Calls.{lock_word, walk_word, search_word, IsSpelled, ReadIsSpelled}
 use Rattle.ct_line.proofs.NumberWords.{number_back}
-use Rattle.ct_line.proofs.Spelled.{then_ends, ends}
-
--- ---- options
-
-then_back : {A B : Type 0} (o : Option A) (f : A → Option B) (y : B) → then_ends o f ≡ Some y → (x : A) × (o ≡ Some x) × (f x ≡ Some y)
-then_back None f y e = absurd cc
-then_back (Some x) f y e = (x, refl, e)
-
-map_back : {A B : Type 0} (o : Option A) (f : A → B) (y : B) → option_map f o ≡ Some y → (x : A) × (o ≡ Some x) × (f x ≡ y)
-map_back None f y e = absurd cc
-map_back (Some x) f y e = (x, refl, cc)
-
-pick_by : {A : Type 0} (t : Bool) (x z : A) (rest : Option A) → cond t (Some x) rest ≡ Some z → ((t ≡ true) × (x ≡ z)) ⊎ (rest ≡ Some z)
-pick_by true x z rest e = inl (refl, cc)
-pick_by false x z rest e = inr e
-
-pick : {A : Type 0} (word text : List ℕ) (x z : A) (rest : Option A) → cond (bytes_eq word text) (Some x) rest ≡ Some z → ((word ≡ text) × (x ≡ z)) ⊎ (rest ≡ Some z)
-pick word text x z rest e =
-    elim (pick_by (bytes_eq word text) x z rest e) [
-      | inl p ↦ inl ((bytes_eq-Decides word text).0 p.0, p.1)
-      | inr f ↦ inr f
-    ]
-
-name_by : (t : Bool) (x y : List ℕ) → cond t (Some x) None ≡ Some y → (t ≡ true) × (x ≡ y)
-name_by true x y e = (refl, cc)
-name_by false x y e = absurd cc
-
-name_back : (word name : List ℕ) → name_of word ≡ Some name → (is_name name ≡ true) × (word ≡ name)
-name_back word name e =
-    let n = name_by (is_name word) word name e in
-    (rw (← n.1) n.0, n.1)
-
-cons : {a b : List ℕ} {xs ys : List (List ℕ)} → a ≡ b → xs ≡ ys → a ∷ xs ≡ b ∷ ys
-cons {a} {b} {xs} {ys} e f = ap (λ (x : List ℕ). x ∷ xs) e ∙ ap (λ (l : List (List ℕ)). b ∷ l) f
+use Rattle.ct_line.proofs.Spelled.{then_ends, ends, creates, ends_creates}
+use Rattle.ct_line.proofs.Options.{then_back, map_back, pick, name_back, cons}
+use Rattle.ct_line.proofs.Created.{NewSpelled, created_back}
 
 become : (known call : Call) (words : List (List ℕ)) → known ≡ call → IsSpelled known words → IsSpelled call words
 become known call words e h = subst (λ (c : Call). IsSpelled c words) e h
@@ -166,14 +132,10 @@ search_index_back : (search : Search) (file : List ℕ) (words : List (List ℕ)
 search_index_back search file [] call e = absurd cc
 search_index_back search file (word ∷ words) call e = named word words (λ index. reads.Target search file index) call e
 
-create_back : (words : List (List ℕ)) (creating : Creating) (call : Call) → ends (reads.Creating creating) words ≡ Some call → (file : NewFile) × (calls.Create file ≡ call)
-create_back [] creating call e =
-    let m = map_back (created creating) (λ file. calls.Create file) call e in
-    (m.0, m.2)
-create_back (word ∷ words) creating call e =
-    let t = then_back (option_map (λ more. reads.Creating more) (next_of_create creating word)) (λ more. ends more words) call e in
-    let m = map_back (next_of_create creating word) (λ more. reads.Creating more) t.0 t.1 in
-    create_back words m.0 call (rw (← m.2) at t.2)
+create_back : (words : List (List ℕ)) (name : List ℕ) (call : Call) → ends (reads.Creating (Kind name)) words ≡ Some call → (file : NewFile) × NewSpelled name words file × (calls.Create file ≡ call)
+create_back words name call e =
+    let m = map_back (creates (Kind name) words) (λ file. calls.Create file) call (rw (← ends_creates words (Kind name)) e) in
+    (m.0, created_back words name m.0 m.1, m.2)
 
 -- ---- the first word
 
@@ -266,7 +228,12 @@ of_back word of e =
 -- ---- all calls
 
 of_spelled : (of : OfFile) (word : List ℕ) (words : List (List ℕ)) (call : Call) → OfWord of word → Named words (λ file. with_file of file) call → IsSpelled call (word ∷ words)
-of_spelled ofs.Create word words call w n = let c = create_back n.later (Kind n.name) call n.goes_on in become (calls.Create c.0) call (word ∷ words) c.1 tt
+of_spelled ofs.Create word words call w n =
+    let c = create_back n.later n.name call n.goes_on in
+    let b = c.1 in
+    let named : is_name c.0.name ≡ true = rw b.name_is n.is_named in
+    let spelling = cons w (n.words_are ∙ cons (sym b.name_is) b.words_are) in
+    become (calls.Create c.0) call (word ∷ words) c.2 ((b.keys, b.spelled, spelling), (named, b.kind_fits, b.some, b.fits))
 of_spelled ofs.Add word words call w n =
     let o = add_back n.name n.later call n.goes_on in
     become (calls.Add n.name o.text) call (word ∷ words) o.call_is (cons w (n.words_are ∙ cons refl o.words_are), n.is_named)

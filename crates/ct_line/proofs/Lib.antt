@@ -1,4 +1,10 @@
 pub mod Back
+pub mod BadLines
+pub mod Created
+pub mod HexWords
 pub mod NumberWords
+pub mod Options
 pub mod Places
 pub mod Spelled
+pub mod SpelledLines
+pub mod Spellings

@@ -1,16 +1,21 @@
 -- How calls are spelled, said from the call.
-use Rattle.std.specs.Prelude.{◌≡◌, ◌≢◌, ℕ, ◌/◌, ◌%◌, ◌^◌, ◌<◌, List, [], ◌∷◌, ◌++◌, map, Bool, true, false, IsTrue, Option, Some, None, Ok, codes}
-use Rattle.std.specs.Char.{digit_char}
+use Rattle.std.specs.Prelude.{◌≡◌, ◌≢◌, ℕ, ◌+◌, ◌*◌, ◌/◌, ◌%◌, ◌^◌, ◌<◌, ◌≤◌, List, length, [], ◌∷◌, ◌++◌, map, Bool, true, false, IsTrue, Option, Some, None, Result, Ok, Err, codes}
+use Rattle.std.specs.Char.{is_ascii_hexdigit, digit_value, digit_char}
 use Rattle.std.specs.Fmt.{decimal}
 use Rattle.std.specs.List.{AllByRecursion, flat_map}
 use Rattle.ct_definitions.specs.Validity.{is_name}
 use Rattle.ct_definitions.specs.declared.definition.Mode.{Mode}
 use Rattle.ct_definitions.specs.declared.definition.Mode.TheVariants.{Reg, Ureg, Int, Sgn}
 use Rattle.ct_text.specs.declared.word.Word.{Word}
+use Rattle.ct_text.specs.Words.{HasWords}
+use Rattle.ct_line.specs.declared.line.TheConstants.{LONGEST_LINE}
+use Rattle.ct_line.specs.declared.line.LineFault.{LineFault}
+use Rattle.ct_line.specs.declared.line.LineFault.TheVariants as faults
 use Rattle.ct_line.specs.declared.call.Call.{Call}
 use Rattle.ct_line.specs.declared.call.Call.TheVariants as calls
 use Rattle.ct_line.specs.declared.call.LockMode.{LockMode}
 use Rattle.ct_line.specs.declared.call.LockMode.TheVariants.{Free, Enable, ReadRec}
+use Rattle.ct_line.specs.declared.call.NewFile.{NewFile}
 use Rattle.ct_line.specs.declared.call.NewIndex.{NewIndex}
 use Rattle.ct_line.specs.declared.call.NewKind.{NewKind}
 use Rattle.ct_line.specs.declared.call.NewKind.TheVariants.{Fixed, Variable}
@@ -135,13 +140,36 @@ Fits calls.Checkpoint = Unit {0}
 Fits calls.Front = Unit {0}
 Fits calls.Quit = Unit {0}
 
--- whoever spells a call is understood so
-abbrev pub SpelledIsRead : Type 0
-SpelledIsRead = (call : Call) (words : List Word) (end : ℕ) → Fits call → map (λ word. word.bytes) words ≡ words_of call → call_of end Command words ≡ Ok call
+-- ---- spellings
 
--- the words are those of the call; of a new file nothing is said
+-- the word is two hexadecimal digits, each of either case, and they are the byte
+abbrev pub IsHexOf : ℕ → List ℕ → Type 0
+IsHexOf byte (high ∷ low ∷ []) = IsTrue (is_ascii_hexdigit high) × IsTrue (is_ascii_hexdigit low) × (byte ≡ 16 * digit_value high + digit_value low)
+IsHexOf byte [] = ⊥
+IsHexOf byte (high ∷ []) = ⊥
+IsHexOf byte (high ∷ low ∷ more ∷ word) = ⊥
+
+-- the words are those of a null byte, where there is one
+abbrev pub IsNullSpelled : Option ℕ → List (List ℕ) → Type 0
+IsNullSpelled None words = words ≡ []
+IsNullSpelled (Some byte) words = (hex : List ℕ) × IsHexOf byte hex × (words ≡ codes "NULL" ∷ hex ∷ [])
+
+-- the words are those of an index with its segments
+abbrev pub IsIndexSpelled : NewIndex → List (List ℕ) → Type 0
+IsIndexSpelled index words = (null : List (List ℕ)) × IsNullSpelled index.null null × (words ≡ codes "KEY" ∷ index.name ∷ rule_word index.unique ∷ (null ++ flat_map seg_words index.segs))
+
+-- the words are those of the indexes, one behind the other
+abbrev pub AreIndexesSpelled : List NewIndex → List (List ℕ) → Type 0
+AreIndexesSpelled [] words = words ≡ []
+AreIndexesSpelled (index ∷ indexes) words = (own : List (List ℕ)) × (later : List (List ℕ)) × IsIndexSpelled index own × AreIndexesSpelled indexes later × (words ≡ own ++ later)
+
+-- the words are those of a new file
+abbrev pub IsFileSpelled : NewFile → List (List ℕ) → Type 0
+IsFileSpelled file words = (keys : List (List ℕ)) × AreIndexesSpelled file.indexes keys × (words ≡ codes "CREATE" ∷ file.name ∷ (kind_words file.kind ++ keys))
+
+-- the words are those of the call, and a line can ask for it; only a null byte has more than one spelling
 abbrev pub IsSpelled : Call → List (List ℕ) → Type 0
-IsSpelled (calls.Create file) words = Unit {0}
+IsSpelled (calls.Create file) words = IsFileSpelled file words × Fits (calls.Create file)
 IsSpelled (calls.Restore savepoint) words = (words ≡ words_of (calls.Restore savepoint)) × Fits (calls.Restore savepoint)
 IsSpelled (calls.Add file image) words = (words ≡ words_of (calls.Add file image)) × Fits (calls.Add file image)
 IsSpelled (calls.Rewrite file image) words = (words ≡ words_of (calls.Rewrite file image)) × Fits (calls.Rewrite file image)
@@ -158,6 +186,26 @@ IsSpelled calls.Checkpoint words = words ≡ words_of calls.Checkpoint
 IsSpelled calls.Front words = words ≡ words_of calls.Front
 IsSpelled calls.Quit words = words ≡ words_of calls.Quit
 
+-- whoever spells a call is understood so
+abbrev pub SpelledIsRead : Type 0
+SpelledIsRead = (call : Call) (words : List Word) (end : ℕ) → IsSpelled call (map (λ word. word.bytes) words) → call_of end Command words ≡ Ok call
+
+-- each call that a line can ask for has a spelling
+abbrev pub HasSpelling : Type 0
+HasSpelling = (call : Call) → Fits call → IsSpelled call (words_of call)
+
 -- what words ask for is what they spell
 abbrev pub ReadIsSpelled : Type 0
 ReadIsSpelled = (call : Call) (words : List Word) (end : ℕ) → call_of end Command words ≡ Ok call → IsSpelled call (map (λ word. word.bytes) words)
+
+-- ---- lines
+
+-- the line is short enough and has words, and they spell the call
+abbrev pub SpellsCall : List ℕ → Call → Type 0
+SpellsCall line call = (length line ≤ LONGEST_LINE) × (words : List Word) × HasWords 0 line words × IsSpelled call (map (λ word. word.bytes) words)
+
+-- the fact holds of an answer, unless that is want of memory
+abbrev pub OrMemory : Result Call LineFault → Type 0 → Type 0
+OrMemory (Ok call) P = P
+OrMemory (Err (faults.Bad at)) P = P
+OrMemory (Err faults.Memory) P = Unit {0}

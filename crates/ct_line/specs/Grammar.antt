@@ -163,8 +163,12 @@ place_of_missing line (word ∷ words) = length line
 abbrev pub Asks : List ℕ → Result Call ℕ → Type 0
 Asks line asked = (words : List Word) × HasWords 0 line words × (call_of (place_of_missing line words) reads.Command words ≡ asked)
 
+-- the line leaves the grammar at this place: it is too long, or cannot be split there, or its words leave it there
+abbrev pub IsBadAt : List ℕ → ℕ → Type 0
+IsBadAt line at = ((LONGEST_LINE < length line) × (at ≡ LONGEST_LINE)) ⊎ ((length line ≤ LONGEST_LINE) × (IsFirstFault line at ⊎ Asks line (Err at)))
+
 -- what reading a line answers
 abbrev pub IsRead : List ℕ → Result Call LineFault → Type 0
 IsRead line (Ok call) = (length line ≤ LONGEST_LINE) × Asks line (Ok call)
-IsRead line (Err (faults.Bad at)) = ((LONGEST_LINE < length line) × (at ≡ LONGEST_LINE)) ⊎ ((length line ≤ LONGEST_LINE) × (IsFirstFault line at ⊎ Asks line (Err at)))
+IsRead line (Err (faults.Bad at)) = IsBadAt line at
 IsRead line (Err faults.Memory) = Unit {0}

@@ -12,7 +12,7 @@ mod reading;
 pub use call::{
     Call, LockMode, NewFile, NewIndex, NewIndexes, NewKind, NewSeg, NewSegs, Search, Walk,
 };
-pub use laws::{read_call_is_spelled, spelled_call_is_read};
+pub use laws::{call_has_spelling, read_call_is_spelled, spelled_call_is_read};
 pub use line::{LONGEST_LINE, LineFault, read_line};
 
 #[cfg(test)]

@@ -1,9 +1,11 @@
 //! Reading a whole line: the call that it asks for, or the place where it leaves the grammar.
 //! What a line asks for is said in `specs/Grammar.antt`.
 
-ghost use Rattle.std.specs.Prelude.{◌≡◌};
-ghost use Rattle.ct_line.specs.declared.reading.Reading.TheVariants.{Command, Target, AddImage, RewriteImage, Script};
-ghost use Rattle.ct_line.specs.Grammar.{next, whole_call, call_of, command_of, with_file, fault_at, place_of_missing, Goes, Gives, IsRead};
+ghost use Rattle.std.specs.Prelude.{◌≡◌, ℕ, IfOk, Ok, Err};
+ghost use Rattle.ct_line.specs.declared.line.LineFault.TheVariants.{Bad};
+ghost use Rattle.ct_line.specs.declared.reading.Reading.TheVariants.{Command, Target, AddImage, RewriteImage, Script, Savepoint, LockMode};
+ghost use Rattle.ct_line.specs.Calls.{SpellsCall, OrMemory};
+ghost use Rattle.ct_line.specs.Grammar.{next, whole_call, call_of, command_of, with_file, fault_at, place_of_missing, Goes, Gives, IsBadAt, IsRead};
 
 use crate::call::{Call, Search};
 use crate::commands::{bare_call, is, lock_of, name_of, number_of, of_file};
@@ -106,6 +108,26 @@ fn with_script(alloc: Global, word: &[u8]) -> Result<Reading, Misfit>
     Ok(Reading::Nothing(Call::Dump { script }))
 }
 
+/// The call that goes back to a savepoint.
+fn with_savepoint(word: &[u8]) -> Result<Reading, Misfit>
+    ensures { Goes result (next Savepoint word.now) }
+{
+    match number_of(word) {
+        Some(savepoint) => Ok(Reading::Nothing(Call::Restore { savepoint })),
+        None => Err(Misfit::Word),
+    }
+}
+
+/// The call that sets the lock mode.
+fn with_lock_mode(word: &[u8]) -> Result<Reading, Misfit>
+    ensures { Goes result (next LockMode word.now) }
+{
+    match lock_of(word) {
+        Some(mode) => Ok(Reading::Nothing(Call::Lock(mode))),
+        None => Err(Misfit::Word),
+    }
+}
+
 /// What is read after a word that may come next.
 fn next(alloc: Global, reading: Reading, word: &[u8]) -> Result<Reading, Misfit>
     ensures { Goes result (next reading word.now) }
@@ -137,14 +159,8 @@ fn next(alloc: Global, reading: Reading, word: &[u8]) -> Result<Reading, Misfit>
         Reading::AddImage { file } => with_new_image(alloc, file, word),
         Reading::RewriteImage { file } => with_other_image(alloc, file, word),
         Reading::Script => with_script(alloc, word),
-        Reading::Savepoint => match number_of(word) {
-            Some(savepoint) => Ok(Reading::Nothing(Call::Restore { savepoint })),
-            None => Err(Misfit::Word),
-        },
-        Reading::LockMode => match lock_of(word) {
-            Some(mode) => Ok(Reading::Nothing(Call::Lock(mode))),
-            None => Err(Misfit::Word),
-        },
+        Reading::Savepoint => with_savepoint(word),
+        Reading::LockMode => with_lock_mode(word),
         Reading::Creating(creating) => {
             let creating = next_of_create(alloc, creating, word)?;
             Ok(Reading::Creating(creating))
@@ -204,7 +220,13 @@ fn place_of_missing(line: &[u8], words: &[Word]) -> usize
 /// The call that a line asks for, or the place where the line leaves the grammar.
 /// The line is given without its LF and the CR before it.
 pub fn read_line(alloc: Global, line: &[u8]) -> Result<Call, LineFault>
-    ensures { IsRead line.now result }
+    // The line asks for this call, or leaves the grammar there.
+    ensures exact { IsRead line.now result }
+    // An answered call is one that the line spells, and a line that spells a call is answered by it.
+    ensures spelled { IfOk result (SpellsCall line.now) }
+    ensures call { (call : Call) → SpellsCall line.now call → OrMemory result (result ≡ Ok call) }
+    // A line that leaves the grammar at a place is answered by that place.
+    ensures place { (at : ℕ) → IsBadAt line.now at → OrMemory result (result ≡ Err (Bad at)) }
 {
     if line.len() > LONGEST_LINE {
         return Err(LineFault::Bad { at: LONGEST_LINE });

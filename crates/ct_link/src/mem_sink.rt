@@ -1,7 +1,7 @@
 //! A sink in memory, whose bytes contracts see.
 //! For tests it can fail at named calls and write small pieces of what it is given.
 
-ghost use Rattle.std.specs.Prelude.{◌≡◌, ◌<◌, ◌≤◌, [], ◌∷◌, ◌++◌, Some, IfOk, OnErr, OnOk, length, min};
+ghost use Rattle.std.specs.Prelude.{◌≡◌, ◌<◌, ◌≤◌, [], ◌∷◌, ◌++◌, if◌then◌else◌, Some, IfOk, OnErr, OnOk, length, min};
 ghost use Rattle.std.specs.Io.KnownBytes.{WriteAppends};
 ghost use Rattle.ct_link.specs.Faults.{raised};
 ghost use Rattle.ct_link.specs.Memory.{FailsAsPlanned, is_planned};
@@ -90,8 +90,9 @@ impl Sink for MemSink {
         ensures pieces { IfOk result (λ n. n ≡ min (length bytes.now) self.old.most) }
         ensures most { self.new.most ≡ self.old.most }
 
-        // It fails exactly at the calls that were named.
+        // It fails exactly at the calls that were named, and counts one fault at each.
         ensures planned { FailsAsPlanned result (is_planned self.old.failing self.new.calls) }
+        ensures faults { self.new.faults ≡ (if is_planned self.old.failing self.new.calls then raised self.old.faults else self.old.faults) }
         ensures calls { self.new.calls ≡ raised self.old.calls }
         ensures failing { self.new.failing ≡ self.old.failing }
     {

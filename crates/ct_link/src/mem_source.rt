@@ -1,7 +1,7 @@
 //! A source in memory, whose bytes contracts see.
 //! For tests it can fail at named calls and hand out its bytes in small pieces.
 
-ghost use Rattle.std.specs.Prelude.{◌≡◌, ◌<◌, ◌≤◌, [], ◌∷◌, ◌++◌, Some, IfOk, OnErr, OnOk, drop, is_err, length, min, take};
+ghost use Rattle.std.specs.Prelude.{◌≡◌, ◌<◌, ◌≤◌, [], ◌∷◌, ◌++◌, if◌then◌else◌, Some, IfOk, OnErr, OnOk, drop, is_err, length, min, take};
 ghost use Rattle.std.specs.Io.KnownBytes.{ReadConsumes, WriteAppends};
 ghost use Rattle.ct_link.specs.Faults.{raised};
 ghost use Rattle.ct_link.specs.Memory.{is_planned};
@@ -112,8 +112,9 @@ impl Source for MemSource {
         ensures pieces { IfOk result (λ n. n ≡ min (min (length self.old.left) (length into.old)) self.old.most) }
         ensures most { self.new.most ≡ self.old.most }
 
-        // It fails exactly at the calls that were named.
+        // It fails exactly at the calls that were named, and counts one fault at each.
         ensures planned { is_err result ≡ is_planned self.old.failing self.new.calls }
+        ensures faults { self.new.faults ≡ (if is_planned self.old.failing self.new.calls then raised self.old.faults else self.old.faults) }
         ensures calls { self.new.calls ≡ raised self.old.calls }
         ensures failing { self.new.failing ≡ self.old.failing }
     {

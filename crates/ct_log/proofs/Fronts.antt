@@ -1,12 +1,12 @@
 -- The front of a log, written piece by piece.
-use Rattle.std.proofs.Common.{IsTrue, Result, Ok, Err, OnOk, ◌≡◌, ◌≤◌, ◌+◌, ◌-◌, ℕ, suc, List, [], ◌∷◌, ◌++◌, length, replicate, refl, sym, ap, ◌∙◌, arith, append_assoc, length-append}
+use Rattle.std.proofs.Common.{IsTrue, Result, Ok, Err, OnOk, ◌≡◌, ◌≤◌, ◌+◌, ◌-◌, ℕ, suc, List, [], ◌∷◌, ◌++◌, length, replicate, refl, sym, ap, ◌∙◌, subst, arith, append_assoc, length-append}
 use Rattle.std.proofs.lemmas.List.{take_all, drop_all, append-nil, length-replicate, replicate-append-replicate}
 use Rattle.std.proofs.lemmas.Bool.Decides.{nat_tests}
-use Rattle.ct_disk.specs.Disk.{overlaid, resized, Resized}
+use Rattle.ct_disk.specs.Disk.{Torn, overlaid, resized, Resized}
 use Rattle.ct_disk.specs.declared.fault.DiskError.{DiskError}
 use Rattle.ct_disk.specs.declared.fault.DiskError.TheVariants.{Fault, Memory}
 use Rattle.ct_log.specs.Front.{zeros, is_id, signature, number_bytes, name_plate, front_with, front}
-use Rattle.ct_log.proofs.Torn.{overlaid_behind}
+use Rattle.ct_log.proofs.Torn.{torn_gate, overlaid_behind}
 
 pub length-zeros : (n : ℕ) → length (zeros n) ≡ n
 unfolding zeros
@@ -75,17 +75,26 @@ empty_log id base =
     ∙ ap (λ (l : List ℕ). plate ++ l) whole
     )
 
+-- the parts of a front around the header's gate
+pub front_parts : (gate : ℕ) (id : List ℕ) (base : ℕ) (behind : List ℕ) → front_with gate id base ++ behind ≡ name_plate id base ++ gate ∷ (zeros 4059 ++ zeros 8192 ++ behind)
+front_parts gate id base behind =
+    ap (λ (l : List ℕ). l ++ behind) (append_assoc (name_plate id base) (gate ∷ zeros 4059) (zeros 8192))
+    ∙ append_assoc (name_plate id base) (gate ∷ zeros 4059 ++ zeros 8192) behind
+
 -- the header's gate put over
 pub gate_opened : (id : List ℕ) (base : ℕ) (behind old new : List ℕ) → length id ≤ 16 → old ≡ front_with 0 id base ++ behind → new ≡ overlaid old 36 (1 ∷ []) → new ≡ front id base ++ behind
 gate_opened id base behind old new short was is =
     let plate = name_plate id base in
     let rest = zeros 4059 ++ zeros 8192 ++ behind in
-    is ∙ ap (λ (l : List ℕ). overlaid l 36 (1 ∷ [])) (was ∙ parts 0) ∙ overlaid_behind plate (0 ∷ rest) (1 ∷ []) 36 (sym (length-name_plate id base short)) ∙ sym (parts 1)
-  where
-    parts : (gate : ℕ) → front_with gate id base ++ behind ≡ name_plate id base ++ gate ∷ (zeros 4059 ++ zeros 8192 ++ behind)
-    parts gate =
-        ap (λ (l : List ℕ). l ++ behind) (append_assoc (name_plate id base) (gate ∷ zeros 4059) (zeros 8192))
-        ∙ append_assoc (name_plate id base) (gate ∷ zeros 4059 ++ zeros 8192) behind
+    is ∙ ap (λ (l : List ℕ). overlaid l 36 (1 ∷ [])) (was ∙ front_parts 0 id base behind) ∙ overlaid_behind plate (0 ∷ rest) (1 ∷ []) 36 (sym (length-name_plate id base short)) ∙ sym (front_parts 1 id base behind)
+
+-- a torn write of the header's gate leaves all but the gate
+pub gate_torn : (id : List ℕ) (base : ℕ) (behind old new : List ℕ) → length id ≤ 16 → old ≡ front_with 0 id base ++ behind → Torn 36 1 old new → (gate : ℕ) × (new ≡ front_with gate id base ++ behind)
+gate_torn id base behind old new short was torn =
+    let rest = zeros 4059 ++ zeros 8192 ++ behind in
+    let T : List ℕ → Type 0 = λ l. Torn 36 1 l new in
+    let left = torn_gate (name_plate id base) rest new 0 36 (sym (length-name_plate id base short)) (subst T (was ∙ front_parts 0 id base behind) torn) in
+    (left.0, left.1 ∙ sym (front_parts left.0 id base behind))
 
 -- the same, by the answer of the call
 pub padded : (result : Result Unit DiskError) (old new : List ℕ) (len : ℕ) → length old ≤ len → Resized result len old new → OnOk result (new ≡ old ++ zeros (len - length old))

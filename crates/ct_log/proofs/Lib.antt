@@ -1,6 +1,12 @@
+pub mod ByteReads
 pub mod ChunkLaws
+pub mod ChunkReads
 pub mod Flushes
+pub mod Founds
 pub mod Frames
 pub mod Fronts
+pub mod HeadReads
+pub mod MadeHeads
 pub mod Steps
 pub mod Torn
+pub mod Zeros

@@ -1,5 +1,5 @@
 -- The chunks of a log: groups behind a gate, one chunk after another up to a closed gate.
-use Rattle.std.specs.Prelude.{◌≡◌, ◌≢◌, ◌⊎◌, ◌<◌, ◌+◌, ◌-◌, ◌^◌, ℕ, List, [], ◌∷◌, ◌++◌, length, take, drop, All}
+use Rattle.std.specs.Prelude.{◌≡◌, ◌≢◌, ◌⊎◌, ◌<◌, ◌+◌, ◌-◌, ◌^◌, ℕ, min, List, [], ◌∷◌, ◌++◌, length, take, drop, All}
 use Rattle.std.specs.Int.{w32, to_le_bytes}
 
 -- a chunk's length in four bytes, the low byte first
@@ -24,6 +24,10 @@ abbrev pub chunk_size : List ℕ → ℕ
 chunk_size [] = 0
 chunk_size (byte ∷ more) = 5 + length (byte ∷ more)
 
+-- this many bytes behind the end of a log, with the gate that stands before them: none where there are none
+abbrev pub with_gate : ℕ → ℕ
+with_gate n = n + min n 1
+
 -- the body of a chunk that has groups
 abbrev pub framed : List ℕ → List ℕ
 framed [] = []
@@ -43,6 +47,12 @@ pub record EndsAfter (text bytes : List ℕ) : Type 0 where
 -- the length fits its four bytes
 abbrev pub IsShort : List ℕ → Type 0
 IsShort groups = length groups < 2 ^ 32
+
+-- These bytes begin with an open chunk of these groups.
+pub record BeginsWithChunk (groups bytes : List ℕ) : Type 0 where
+  pub short : IsShort groups
+  pub behind : List ℕ
+  pub parts : bytes ≡ open_chunk groups ++ behind
 
 -- These bytes hold a front and these chunks behind it, up to the first gate that is not open.
 pub record HasChunks (front : List ℕ) (chunks : List (List ℕ)) (bytes : List ℕ) : Type 0 where

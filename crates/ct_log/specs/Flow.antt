@@ -26,6 +26,13 @@ groups_at Opened waiting taken = taken
 abbrev pub in_flush : Flow → List ℕ
 in_flush flow = groups_at flow.stage flow.waiting flow.taken
 
+-- no chunk is under way and no group waits, and each group before the next is durable
+pub record IsAtRest (flow : Flow) : Type 0 where
+  pub stage : flow.stage ≡ Idle
+  pub taken : flow.taken ≡ []
+  pub waiting : flow.waiting ≡ []
+  pub durable : flow.durable + 1 ≡ flow.next
+
 -- nothing has changed
 pub record SameFlow (old new : Flow) : Type 0 where
   pub end : new.end ≡ old.end

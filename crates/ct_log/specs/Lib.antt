@@ -1,5 +1,7 @@
 pub mod Chunks
 pub mod Flow
 pub mod Front
+pub mod Heads
 pub mod Log
+pub mod Reading
 pub mod Stages

@@ -1,7 +1,7 @@
 //! What a log knows in memory of how far it is written, and the groups that wait.
 
 ghost use Rattle.std.specs.Prelude.{◌≡◌, ◌<◌, ◌≤◌, ◌+◌, ◌^◌, []};
-ghost use Rattle.ct_log.specs.Chunks.{chunk_size, IsShort};
+ghost use Rattle.ct_log.specs.Chunks.{chunk_size, with_gate, IsShort};
 ghost use Rattle.ct_log.specs.declared.stage.Stage.TheVariants.{Idle};
 
 use crate::groups::Groups;
@@ -29,7 +29,7 @@ pub struct Flow {
     pub next: u64,
     ghost taken_short: { IsShort taken },
     ghost waiting_short: { IsShort waiting },
-    ghost fits: { end + chunk_size taken + chunk_size waiting < 2 ^ 62 },
+    ghost fits: { end + with_gate (chunk_size taken + chunk_size waiting) ≤ 2 ^ 62 },
     ghost in_order: { durable ≤ taken_up_to },
     ghost before_next: { taken_up_to < next },
     ghost last: { next ≤ 2 ^ 63 },

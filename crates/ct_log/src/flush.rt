@@ -17,13 +17,12 @@ impl<L: Disk> Log<L> {
     /// under way. After an `Err` the step is to be made again.
     pub fn flush_step(&mut self) -> Result<FlushAt, DiskError>
         requires unflushed { self.old.flow.durable + 1 < self.old.flow.next }
-        requires log { IsTrue L.tells → IsLog L.content L.may_leave self.old }
         ensures flow { Stepped result self.old.flow self.new.flow }
-        ensures log { IsTrue L.tells → IsLog L.content L.may_leave self.new }
-        ensures text { IsTrue L.tells → durable_text L.content self.new
+        ensures log { IsTrue L.tells → IsLog L.content L.may_leave self.old → IsLog L.content L.may_leave self.new }
+        ensures text { IsTrue L.tells → IsLog L.content L.may_leave self.old → durable_text L.content self.new
             ≡ text_after result (durable_text L.content self.old) (in_flush self.old.flow) }
         // A crash at any moment leaves the durable text, or that and the chunk under way.
-        ensures any_moment { IsTrue L.tells → LeavesOnly L.left_since
+        ensures any_moment { IsTrue L.tells → IsLog L.content L.may_leave self.old → LeavesOnly L.left_since
             (Stands (durable_text L.content self.old) (in_flush self.old.flow)) self.old.device self.new.device }
         // Want of memory is the device's, since the one call of it was made.
         ensures calls { L.calls self.new.device ≡ raised (L.calls self.old.device) }
@@ -42,12 +41,11 @@ impl<L: Disk> Log<L> {
     fn write_body(&mut self) -> Result<FlushAt, DiskError>
         requires stage { self.old.flow.stage ≡ Stage.Idle }
         requires some { 0 < length self.old.flow.waiting }
-        requires log { IsTrue L.tells → IsLog L.content L.may_leave self.old }
         ensures flow { Stepped result self.old.flow self.new.flow }
-        ensures log { IsTrue L.tells → IsLog L.content L.may_leave self.new }
-        ensures text { IsTrue L.tells → durable_text L.content self.new
+        ensures log { IsTrue L.tells → IsLog L.content L.may_leave self.old → IsLog L.content L.may_leave self.new }
+        ensures text { IsTrue L.tells → IsLog L.content L.may_leave self.old → durable_text L.content self.new
             ≡ text_after result (durable_text L.content self.old) self.old.flow.waiting }
-        ensures any_moment { IsTrue L.tells → LeavesOnly L.left_since
+        ensures any_moment { IsTrue L.tells → IsLog L.content L.may_leave self.old → LeavesOnly L.left_since
             (Stands (durable_text L.content self.old) self.old.flow.waiting) self.old.device self.new.device }
         ensures calls { L.calls self.new.device ≡ raised (L.calls self.old.device) }
         ensures reads { L.reads self.new.device ≡ L.reads self.old.device }
@@ -62,12 +60,11 @@ impl<L: Disk> Log<L> {
     /// Makes the body stable.
     fn sync_body(&mut self) -> Result<FlushAt, DiskError>
         requires stage { self.old.flow.stage ≡ Stage.Written }
-        requires log { IsTrue L.tells → IsLog L.content L.may_leave self.old }
         ensures flow { Stepped result self.old.flow self.new.flow }
-        ensures log { IsTrue L.tells → IsLog L.content L.may_leave self.new }
-        ensures text { IsTrue L.tells → durable_text L.content self.new
+        ensures log { IsTrue L.tells → IsLog L.content L.may_leave self.old → IsLog L.content L.may_leave self.new }
+        ensures text { IsTrue L.tells → IsLog L.content L.may_leave self.old → durable_text L.content self.new
             ≡ text_after result (durable_text L.content self.old) self.old.flow.taken }
-        ensures any_moment { IsTrue L.tells → LeavesOnly L.left_since
+        ensures any_moment { IsTrue L.tells → IsLog L.content L.may_leave self.old → LeavesOnly L.left_since
             (Stands (durable_text L.content self.old) self.old.flow.taken) self.old.device self.new.device }
         ensures calls { L.calls self.new.device ≡ raised (L.calls self.old.device) }
         ensures reads { L.reads self.new.device ≡ L.reads self.old.device }
@@ -81,12 +78,11 @@ impl<L: Disk> Log<L> {
     /// Writes the chunk's gate as open.
     fn write_gate(&mut self) -> Result<FlushAt, DiskError>
         requires stage { self.old.flow.stage ≡ Stage.Stable }
-        requires log { IsTrue L.tells → IsLog L.content L.may_leave self.old }
         ensures flow { Stepped result self.old.flow self.new.flow }
-        ensures log { IsTrue L.tells → IsLog L.content L.may_leave self.new }
-        ensures text { IsTrue L.tells → durable_text L.content self.new
+        ensures log { IsTrue L.tells → IsLog L.content L.may_leave self.old → IsLog L.content L.may_leave self.new }
+        ensures text { IsTrue L.tells → IsLog L.content L.may_leave self.old → durable_text L.content self.new
             ≡ text_after result (durable_text L.content self.old) self.old.flow.taken }
-        ensures any_moment { IsTrue L.tells → LeavesOnly L.left_since
+        ensures any_moment { IsTrue L.tells → IsLog L.content L.may_leave self.old → LeavesOnly L.left_since
             (Stands (durable_text L.content self.old) self.old.flow.taken) self.old.device self.new.device }
         ensures calls { L.calls self.new.device ≡ raised (L.calls self.old.device) }
         ensures reads { L.reads self.new.device ≡ L.reads self.old.device }
@@ -101,12 +97,11 @@ impl<L: Disk> Log<L> {
     /// Makes the gate stable: the chunk is part of the log.
     fn sync_gate(&mut self) -> Result<FlushAt, DiskError>
         requires stage { self.old.flow.stage ≡ Stage.Opened }
-        requires log { IsTrue L.tells → IsLog L.content L.may_leave self.old }
         ensures flow { Stepped result self.old.flow self.new.flow }
-        ensures log { IsTrue L.tells → IsLog L.content L.may_leave self.new }
-        ensures text { IsTrue L.tells → durable_text L.content self.new
+        ensures log { IsTrue L.tells → IsLog L.content L.may_leave self.old → IsLog L.content L.may_leave self.new }
+        ensures text { IsTrue L.tells → IsLog L.content L.may_leave self.old → durable_text L.content self.new
             ≡ text_after result (durable_text L.content self.old) self.old.flow.taken }
-        ensures any_moment { IsTrue L.tells → LeavesOnly L.left_since
+        ensures any_moment { IsTrue L.tells → IsLog L.content L.may_leave self.old → LeavesOnly L.left_since
             (Stands (durable_text L.content self.old) self.old.flow.taken) self.old.device self.new.device }
         ensures calls { L.calls self.new.device ≡ raised (L.calls self.old.device) }
         ensures reads { L.reads self.new.device ≡ L.reads self.old.device }

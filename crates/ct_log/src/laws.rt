@@ -26,14 +26,13 @@ pub fn text_stands_for_chunks()
 /// At each stage of a flush a read and a crash give the chunks of the durable text, or these and the
 /// one under way; with none under way they give the durable ones.
 pub fn log_holds_chunks<L: Disk>(log: &Log<L>)
-    requires log { IsTrue L.tells → IsLog L.content L.may_leave log.now }
-    ensures read { IsTrue L.tells → (front : List ℕ) (chunks : List (List ℕ)) → All IsShort chunks
+    ensures read { IsTrue L.tells → IsLog L.content L.may_leave log.now → (front : List ℕ) (chunks : List (List ℕ)) → All IsShort chunks
         → durable_text L.content log.now ≡ front ++ chunks_text chunks
         → HoldsChunks front chunks log.now.flow.taken (L.content log.now.device) }
-    ensures left { IsTrue L.tells → (front : List ℕ) (chunks : List (List ℕ)) (c : List ℕ) → All IsShort chunks
+    ensures left { IsTrue L.tells → IsLog L.content L.may_leave log.now → (front : List ℕ) (chunks : List (List ℕ)) (c : List ℕ) → All IsShort chunks
         → durable_text L.content log.now ≡ front ++ chunks_text chunks → L.may_leave log.now.device c
         → HoldsChunks front chunks log.now.flow.taken c }
-    ensures at_rest { IsTrue L.tells → log.now.flow.stage ≡ Stage.Idle → (front : List ℕ) (chunks : List (List ℕ)) (c : List ℕ)
+    ensures at_rest { IsTrue L.tells → IsLog L.content L.may_leave log.now → log.now.flow.stage ≡ Stage.Idle → (front : List ℕ) (chunks : List (List ℕ)) (c : List ℕ)
         → All IsShort chunks → durable_text L.content log.now ≡ front ++ chunks_text chunks → L.may_leave log.now.device c
         → HasChunks front chunks c }
 {}

@@ -5,17 +5,24 @@
 mod flow;
 mod flush;
 mod groups;
+mod head;
+mod head_laws;
 mod laws;
 mod log;
 mod make;
 mod moves;
+mod pages;
+mod read;
 mod stage;
 
 pub use flow::Flow;
 pub use groups::Groups;
+pub use head::{Head, Start, has_open_header, read_head};
+pub use head_laws::{chunks_are_found, made_logs_are_read};
 pub use laws::{chunks_are_determined, log_holds_chunks, text_stands_for_chunks};
 pub use log::Log;
-pub use make::{is_id, make_log, open_gate};
+pub use make::{is_id, make_log, open_gate, pad, write_behind};
+pub use read::{Chunk, LogFault, read_chunk};
 pub use stage::{FlushAt, Stage};
 
 #[cfg(test)]

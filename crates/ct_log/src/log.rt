@@ -1,19 +1,22 @@
 //! A log: a device and what is known of it in memory.
 
-ghost use Rattle.std.specs.Prelude.{◌≡◌, ◌↔◌, ◌<◌, ◌≤◌, ◌+◌, ◌++◌, [], ◌∷◌, List, ℕ, length, IsTrue, OnOk, OnErr, IfOk};
-ghost use Rattle.ct_disk.specs.Disk.{Only};
-ghost use Rattle.ct_log.specs.Flow.{has_room, SameFlow, Queued};
+ghost use Rattle.std.specs.Prelude.{◌≡◌, ◌↔◌, ◌<◌, ◌≤◌, ◌+◌, ◌^◌, ◌++◌, [], ◌∷◌, List, ℕ, length, take, drop, IsTrue, OnOk, OnErr, IfOk, IfErr, IfSome, IsErrOf, MatchResult, Ok, Err};
+ghost use Rattle.ct_disk.specs.Disk.{Only, Rose};
+ghost use Rattle.ct_log.specs.Chunks.{BeginsWithChunk, EndsAfter};
+ghost use Rattle.ct_log.specs.Flow.{has_room, IsAtRest, SameFlow, Queued};
 ghost use Rattle.ct_log.specs.Front.{is_id, front};
+ghost use Rattle.ct_log.specs.Heads.{TellsHead, head_in, is_start};
+ghost use Rattle.ct_log.specs.Reading.{IsRead, Tells, found_in, log_bytes};
 ghost use Rattle.ct_log.specs.Log.{IsLog, durable_text};
 
 use crate::flow::Flow;
+use crate::head::{Head, read_head};
+use crate::pages::FIRST_CHUNK;
+use crate::read::{Chunk, LogFault, read_chunk};
 use crate::stage::Stage;
 use ct_disk::Disk;
 use ct_items::NoMemory;
 use std::alloc::Global;
-
-/// Where the first chunk stands, behind the header and the two start cells.
-const FIRST_CHUNK: u64 = 12288;
 
 /// A log on a device.
 #[derive(Drop)]
@@ -42,6 +45,60 @@ impl<L: Disk> Log<L> {
         }
     }
 
+    /// A log that is to be read from where its head says. Where it ends is told by `set_end`, once it is read.
+    /// A refusal hands the device back.
+    pub fn open(alloc: Global, mut device: L) -> Result<(Log<L>, Head), (LogFault, L)>
+        ensures head { IsTrue L.tells → IfOk result (λ opened. head_in (L.content device) ≡ Ok opened.1) }
+        ensures bad { IsTrue L.tells → IfErr result (λ refused. TellsHead (Err refused.0) (head_in (L.content device))) }
+        ensures end { IfOk result (λ opened. (opened.0.flow.end ≡ opened.1.start.place) × (opened.0.flow.next ≡ opened.1.start.ordinal)) }
+        ensures rest { IfOk result (λ opened. IsAtRest opened.0.flow) }
+        ensures start { IfOk result (λ opened. IsTrue (is_start opened.1.start)) }
+        ensures read { IsTrue L.tells → MatchResult result (λ opened. IsRead L.content L.may_leave L.left_since device opened.0.device)
+            (λ refused. IsRead L.content L.may_leave L.left_since device refused.1) }
+        ensures later { MatchResult result (λ opened. L.faults device ≤ L.faults opened.0.device) (λ refused. L.faults device ≤ L.faults refused.1) }
+        ensures cause { IfErr result (λ refused. refused.0 ≡ LogFault.Fault → Rose (L.faults device) (L.faults refused.1)) }
+    {
+        match read_head(alloc, &mut device) {
+            Ok(head) => {
+                let flow = Flow::at_rest(alloc, head.start.place, head.start.ordinal);
+                Ok((Log { device, flow }, head))
+            }
+            Err(fault) => Err((fault, device)),
+        }
+    }
+
+    /// Reads the chunk at a place.
+    pub fn read_from(&mut self, alloc: Global, place: u64) -> Result<Option<Chunk>, LogFault>
+        requires { place ≤ 2 ^ 62 }
+        ensures found { IsTrue L.tells → Tells result place (found_in (drop place (log_bytes (L.content self.old.device)))) }
+        ensures next { IfOk result (λ found. IfSome found (λ chunk. (place + 5 ≤ chunk.next) × (chunk.next ≤ 2 ^ 62))) }
+        ensures bytes { IsTrue L.tells → IfOk result (λ found. IfSome found (λ chunk. BeginsWithChunk chunk.groups (drop place (log_bytes (L.content self.old.device))))) }
+        ensures flow { SameFlow self.old.flow self.new.flow }
+        ensures read { IsTrue L.tells → IsRead L.content L.may_leave L.left_since self.old.device self.new.device }
+        ensures size { L.size self.new.device ≡ L.size self.old.device }
+        ensures reads { L.reads self.new.device ≤ L.reads self.old.device + 2 }
+        ensures later { L.faults self.old.device ≤ L.faults self.new.device }
+        ensures cause { IsErrOf result LogFault.Fault → Rose (L.faults self.old.device) (L.faults self.new.device) }
+    {
+        read_chunk(alloc, &mut self.device, place)
+    }
+
+    /// Tells where the log ends: at the place of the first gate that is not open, and which ordinal comes next.
+    pub fn set_end(&mut self, place: u64, ordinal: u64)
+        requires rest { IsAtRest self.old.flow }
+        requires place { place ≤ 2 ^ 62 }
+        requires first { 0 < ordinal }
+        requires last { ordinal ≤ 2 ^ 63 }
+        ensures device { self.new.device ≡ self.old.device }
+        ensures rest { IsAtRest self.new.flow }
+        ensures end { self.new.flow.end ≡ place }
+        ensures next { self.new.flow.next ≡ ordinal }
+        ensures log { IsTrue L.tells → EndsAfter (take place (L.content self.old.device)) (L.content self.old.device)
+            → Only (L.content self.old.device) (L.may_leave self.old.device) → IsLog L.content L.may_leave self.new }
+    {
+        self.flow = Flow::at_rest(self.flow.alloc, place, ordinal);
+    }
+
     /// Whether a group of this many bytes may still be added.
     pub fn has_room(&self, len: usize) -> bool
         ensures { result ≡ has_room self.now.flow len }
@@ -53,13 +110,12 @@ impl<L: Disk> Log<L> {
     pub fn append(&mut self, group: &[u8]) -> Result<u64, NoMemory>
         requires some { 0 < length group.now }
         requires room { IsTrue (has_room self.old.flow (length group.now)) }
-        requires log { IsTrue L.tells → IsLog L.content L.may_leave self.old }
         ensures ordinal { IfOk result (λ ordinal. ordinal ≡ self.old.flow.next) }
         ensures ok { OnOk result (Queued group.now self.old.flow self.new.flow) }
         ensures err { OnErr result (SameFlow self.old.flow self.new.flow) }
         ensures device { self.new.device ≡ self.old.device }
-        ensures log { IsTrue L.tells → IsLog L.content L.may_leave self.new }
-        ensures text { IsTrue L.tells → durable_text L.content self.new ≡ durable_text L.content self.old }
+        ensures log { IsTrue L.tells → IsLog L.content L.may_leave self.old → IsLog L.content L.may_leave self.new }
+        ensures text { durable_text L.content self.new ≡ durable_text L.content self.old }
     {
         self.flow.queue(group)
     }
@@ -67,11 +123,10 @@ impl<L: Disk> Log<L> {
     /// Takes beforehand what the steps of a flush need in memory. Each `append` has done so, and
     /// nothing is left to take.
     pub fn ready(&mut self) -> Result<(), NoMemory>
-        requires log { IsTrue L.tells → IsLog L.content L.may_leave self.old }
         ensures flow { SameFlow self.old.flow self.new.flow }
         ensures device { self.new.device ≡ self.old.device }
-        ensures log { IsTrue L.tells → IsLog L.content L.may_leave self.new }
-        ensures text { IsTrue L.tells → durable_text L.content self.new ≡ durable_text L.content self.old }
+        ensures log { IsTrue L.tells → IsLog L.content L.may_leave self.old → IsLog L.content L.may_leave self.new }
+        ensures text { durable_text L.content self.new ≡ durable_text L.content self.old }
     {
         Ok(())
     }

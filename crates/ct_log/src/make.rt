@@ -1,25 +1,23 @@
 //! A new log: its front, with the header's gate closed until it is opened.
 
 ghost use Rattle.std.specs.Prelude.{◌≡◌, ◌≤◌, ◌+◌, ◌-◌, ◌^◌, ◌++◌, [], ◌∷◌, List, ℕ, length, IsTrue, OnOk};
-ghost use Rattle.ct_disk.specs.Disk.{Only, Torn, GoesOn, HasCause};
+ghost use Rattle.ct_disk.specs.Disk.{AllImages, Only, Torn, GoesOn, HasCause};
 ghost use Rattle.ct_log.specs.Front.{zeros, is_id, name_plate, front_with, front};
 
+use crate::head::HEADER_GATE;
 use ct_disk::{Disk, DiskError};
 
 /// A front of 12,288 bytes and the first chunk's gate.
 const EMPTY_LOG: u64 = 12289;
 
 /// "CTLOGONE" and version 1.
-const SIGNATURE: [u8; 12] = [67, 84, 76, 79, 71, 79, 78, 69, 1, 0, 0, 0];
+pub(crate) const SIGNATURE: [u8; 12] = [67, 84, 76, 79, 71, 79, 78, 69, 1, 0, 0, 0];
 
 /// Where the id stands in the header.
 const ID: u64 = 12;
 
 /// Where the base number stands in the header.
 const BASE: u64 = 28;
-
-/// Where the header's gate stands.
-const HEADER_GATE: u64 = 36;
 
 /// Whether these bytes can be an id: 1 to 16, none of them zero.
 pub fn is_id(id: &[u8]) -> bool
@@ -35,6 +33,8 @@ pub fn make_log<L: Disk>(device: &mut L, id: &[u8], base: u64) -> Result<(), Dis
     requires base { base ≤ 2 ^ 63 }
     ensures made { IsTrue L.tells → OnOk result (L.content device.new ≡ front_with 0 id.now base ++ 0 ∷ []) }
     ensures stable { IsTrue L.tells → OnOk result (Only (L.content device.new) (L.may_leave device.new)) }
+    // The last of its seven calls is the sync.
+    ensures calls { L.calls device.new ≤ L.calls device.old + 7 }
     ensures cause { HasCause (L.faults device.old) (L.faults device.new) result }
 {
     device.cut(0)?;
@@ -48,6 +48,7 @@ pub fn make_log<L: Disk>(device: &mut L, id: &[u8], base: u64) -> Result<(), Dis
 fn write_name_plate<L: Disk>(device: &mut L, id: &[u8], base: u64) -> Result<(), DiskError>
     requires { length id.now ≤ 16 }
     ensures written { IsTrue L.tells → L.content device.old ≡ [] → OnOk result (L.content device.new ≡ name_plate id.now base) }
+    ensures calls { L.calls device.new ≤ L.calls device.old + 4 }
     ensures cause { HasCause (L.faults device.old) (L.faults device.new) result }
 {
     write_behind(device, 0, &SIGNATURE)?;
@@ -58,20 +59,22 @@ fn write_name_plate<L: Disk>(device: &mut L, id: &[u8], base: u64) -> Result<(),
 }
 
 /// Writes bytes at the device's end.
-fn write_behind<L: Disk>(device: &mut L, end: u64, bytes: &[u8]) -> Result<(), DiskError>
+pub fn write_behind<L: Disk>(device: &mut L, end: u64, bytes: &[u8]) -> Result<(), DiskError>
     requires { end + length bytes.now ≤ 2 ^ 62 }
     ensures written { IsTrue L.tells → length (L.content device.old) ≡ end
         → OnOk result (L.content device.new ≡ L.content device.old ++ bytes.now) }
+    ensures calls { L.calls device.new ≤ L.calls device.old + 1 }
     ensures cause { HasCause (L.faults device.old) (L.faults device.new) result }
 {
     device.write_at(end, bytes)
 }
 
 /// Adds zeros at the device's end, up to this length.
-fn pad<L: Disk>(device: &mut L, len: u64) -> Result<(), DiskError>
+pub fn pad<L: Disk>(device: &mut L, len: u64) -> Result<(), DiskError>
     requires { len ≤ 2 ^ 62 }
     ensures padded { IsTrue L.tells → length (L.content device.old) ≤ len
         → OnOk result (L.content device.new ≡ L.content device.old ++ zeros (len - length (L.content device.old))) }
+    ensures calls { L.calls device.new ≤ L.calls device.old + 1 }
     ensures cause { HasCause (L.faults device.old) (L.faults device.new) result }
 {
     device.cut(len)
@@ -84,6 +87,9 @@ pub fn open_gate<L: Disk>(device: &mut L) -> Result<(), DiskError>
         → L.content device.old ≡ front_with 0 id base ++ behind → OnOk result (L.content device.new ≡ front id base ++ behind) }
     ensures stable { IsTrue L.tells → OnOk result (Only (L.content device.new) (L.may_leave device.new)) }
     ensures crash { IsTrue L.tells → GoesOn L.may_leave L.left_since (Torn 36 1) device.old device.new }
+    ensures left { IsTrue L.tells → (id : List ℕ) (base : ℕ) (behind : List ℕ) → IsTrue (is_id id)
+        → AllImages (λ c. c ≡ front_with 0 id base ++ behind) (L.may_leave device.old)
+        → AllImages (λ c. (gate : ℕ) × (c ≡ front_with gate id base ++ behind)) (L.may_leave device.new) }
     ensures cause { HasCause (L.faults device.old) (L.faults device.new) result }
 {
     device.write_at(HEADER_GATE, &[1])?;

@@ -1,7 +1,7 @@
 //! The moves of the facts in memory, one for each step of a flush.
 
 ghost use Rattle.std.specs.Prelude.{◌≡◌, ◌<◌, ◌≤◌, ◌+◌, ◌^◌, [], ◌++◌, length, IsTrue, IfOk, OnOk, OnErr};
-ghost use Rattle.ct_log.specs.Chunks.{chunk_body};
+ghost use Rattle.ct_log.specs.Chunks.{chunk_body, chunk_size, with_gate};
 ghost use Rattle.ct_log.specs.Flow.{has_room, SameFlow, Queued, Took, MovedOn, Ended};
 
 use crate::flow::Flow;
@@ -13,7 +13,7 @@ use std::alloc::Global;
 /// No chunk has this many bytes of groups.
 const CHUNK_LIMIT: u64 = 1 << 32;
 
-/// No log ends at or behind this place.
+/// No group goes up to this place or behind it.
 const END_LIMIT: u64 = 1 << 62;
 
 /// The last ordinal.
@@ -22,7 +22,7 @@ const LAST_ORDINAL: u64 = 1 << 63;
 impl Flow {
     /// A log that ends at this place, with nothing under way.
     pub(crate) fn at_rest(alloc: Global, end: u64, next: u64) -> Flow
-        requires place { end < 2 ^ 62 }
+        requires place { end ≤ 2 ^ 62 }
         requires first { 0 < next }
         requires last { next ≤ 2 ^ 63 }
         ensures end { result.end ≡ end }
@@ -75,7 +75,7 @@ impl Flow {
     /// The place of the closed gate that ends the log.
     pub(crate) fn end(&self) -> u64
         ensures place { result ≡ self.now.end }
-        ensures within { self.now.end < 2 ^ 62 }
+        ensures within { self.now.end + with_gate (chunk_size self.now.taken + chunk_size self.now.waiting) ≤ 2 ^ 62 }
     {
         self.end
     }

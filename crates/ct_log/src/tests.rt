@@ -1,19 +1,18 @@
-//! A log in memory: made, flushed, and crashed in the middle of a flush.
+//! A log in memory: made, flushed, crashed in the middle of a flush, opened and read.
 
-ghost use Rattle.std.specs.Prelude.{◌≡◌, ◌<◌, ◌+◌, IsTrue, IfOk, length};
-ghost use Rattle.ct_log.specs.Flow.{has_room};
-ghost use Rattle.ct_log.specs.Log.{IsLog};
+ghost use Rattle.std.specs.Prelude.{◌<◌, ◌+◌, length};
 
-use crate::{FlushAt, Log, is_id, make_log, open_gate};
+use crate::{
+    Chunk, FlushAt, Log, LogFault, Start, has_open_header, is_id, make_log, open_gate, read_chunk,
+    read_head,
+};
 use ct_disk::{Disk, DiskError, MemDisk};
 use ct_items::NoMemory;
 use std::alloc::Global;
 use std::test::Fail;
 
 // An open log with no chunks.
-fn new_log<L: Disk + Drop>(alloc: Global, mut device: L) -> Result<Log<L>, DiskError>
-    ensures { IsTrue L.tells → IfOk result (λ log. IsLog L.content L.may_leave log) }
-{
+fn new_log<L: Disk + Drop>(alloc: Global, mut device: L) -> Result<Log<L>, DiskError> {
     make_log(&mut device, b"LOG", 7)?;
     open_gate(&mut device)?;
     Ok(Log::begin(alloc, device))
@@ -22,8 +21,6 @@ fn new_log<L: Disk + Drop>(alloc: Global, mut device: L) -> Result<Log<L>, DiskE
 // Adds a group where there is room. Answers whether there was.
 fn add<L: Disk>(log: &mut Log<L>, group: &[u8]) -> Result<bool, NoMemory>
     requires some { 0 < length group.now }
-    requires log { IsTrue L.tells → IsLog L.content L.may_leave log.old }
-    ensures { IsTrue L.tells → IsLog L.content L.may_leave log.new }
 {
     if !log.has_room(group.len()) {
         return Ok(false);
@@ -34,10 +31,7 @@ fn add<L: Disk>(log: &mut Log<L>, group: &[u8]) -> Result<bool, NoMemory>
 }
 
 // Makes a step of a flush where a group is not durable.
-fn step<L: Disk>(log: &mut Log<L>) -> Result<Option<FlushAt>, DiskError>
-    requires { IsTrue L.tells → IsLog L.content L.may_leave log.old }
-    ensures { IsTrue L.tells → IsLog L.content L.may_leave log.new }
-{
+fn step<L: Disk>(log: &mut Log<L>) -> Result<Option<FlushAt>, DiskError> {
     if log.is_flushed() {
         return Ok(None);
     }
@@ -46,11 +40,8 @@ fn step<L: Disk>(log: &mut Log<L>) -> Result<Option<FlushAt>, DiskError>
 }
 
 // Makes this many steps of flushes, or fewer where each group is durable.
-fn run<L: Disk>(log: &mut Log<L>, count: usize) -> Result<(), DiskError>
-    requires { IsTrue L.tells → IsLog L.content L.may_leave log.old }
-    ensures { IsTrue L.tells → IsLog L.content L.may_leave log.new }
-{
-    'steps: for _ in 0..count {
+fn run<L: Disk>(log: &mut Log<L>, count: usize) -> Result<(), DiskError> {
+    for _ in 0..count {
         step(log)?;
     }
     Ok(())
@@ -135,5 +126,180 @@ fn a_step_that_failed_is_made_again(rt: HostRuntime) -> Result<(), Fail> {
         log.into_device().bytes().get(12288..),
         Some(b"\x01\x03\0\0\0one\0".as_slice())
     );
+    Ok(())
+}
+
+// A log of the chunks `one` and `two`.
+fn log_of_two(alloc: Global) -> Result<MemDisk, DiskError> {
+    let mut log = new_log(alloc, MemDisk::new(alloc))?;
+    add(&mut log, b"one")?;
+    run(&mut log, 4)?;
+    add(&mut log, b"two")?;
+    run(&mut log, 4)?;
+    Ok(log.into_device())
+}
+
+// A log of two chunks with other bytes at a place.
+fn changed(alloc: Global, at: u64, bytes: &[u8]) -> Result<MemDisk, DiskError>
+    requires { at + length bytes.now < 65536 }
+{
+    let mut disk = log_of_two(alloc)?;
+    disk.write_at(at, bytes)?;
+    Ok(disk)
+}
+
+// The groups of a chunk, and the place of the next one.
+fn parts(chunk: &Option<Chunk>) -> Option<(&[u8], u64)> {
+    match chunk {
+        Some(chunk) => Some((chunk.groups.as_slice(), chunk.next)),
+        None => None,
+    }
+}
+
+#[test]
+fn a_log_is_opened_read_and_gone_on_with(rt: HostRuntime) -> Result<(), Fail> {
+    let alloc = rt.alloc();
+    let Ok((mut log, head)) = Log::open(alloc, log_of_two(alloc)?) else {
+        return Err(Fail::new("the log is not opened"));
+    };
+    assert_eq!(rt;
+        (head.id.as_slice(), head.base, head.gate),
+        (b"LOG".as_slice(), 7, true)
+    );
+    assert_eq!(rt;
+        head.start,
+        Start {
+            sequence: 0,
+            place: 12288,
+            ordinal: 1,
+            last: 7
+        }
+    );
+    let one = log.read_from(alloc, 12288)?;
+    assert_eq!(rt; parts(&one), Some((b"one".as_slice(), 12296)));
+    let two = log.read_from(alloc, 12296)?;
+    assert_eq!(rt; parts(&two), Some((b"two".as_slice(), 12304)));
+    let end = log.read_from(alloc, 12304)?;
+    assert_eq!(rt; parts(&end), None);
+    log.set_end(12304, 3);
+    assert_eq!(rt; (log.durable(), log.next(), log.end()), (2, 3, 12304));
+    assert!(rt; log.has_room(5));
+    assert_eq!(rt; log.append(b"three")?, 3);
+    run(&mut log, 4)?;
+    assert!(rt; log.is_flushed());
+    assert_eq!(rt;
+        log.into_device().bytes().get(12288..),
+        Some(b"\x01\x03\0\0\0one\x01\x03\0\0\0two\x01\x05\0\0\0three\0".as_slice())
+    );
+    Ok(())
+}
+
+#[test]
+fn a_header_with_a_closed_gate_tells_nothing(rt: HostRuntime) -> Result<(), Fail> {
+    let alloc = rt.alloc();
+    let mut disk = MemDisk::new(alloc);
+    assert!(rt; !read_head(alloc, &mut disk)?.gate);
+    make_log(&mut disk, b"LOG", 7)?;
+    assert!(rt; !has_open_header(&mut disk)?);
+    let head = read_head(alloc, &mut disk)?;
+    assert_eq!(rt;
+        (head.id.as_slice(), head.base, head.gate),
+        (b"".as_slice(), 0, false)
+    );
+    assert_eq!(rt;
+        head.start,
+        Start {
+            sequence: 0,
+            place: 12288,
+            ordinal: 1,
+            last: 0
+        }
+    );
+    open_gate(&mut disk)?;
+    assert!(rt; has_open_header(&mut disk)?);
+    assert!(rt; read_head(alloc, &mut disk)?.gate);
+    assert!(rt; !read_head(alloc, &mut changed(alloc, 36, &[2])?)?.gate);
+    Ok(())
+}
+
+#[test]
+fn a_damaged_head_is_refused_at_its_place(rt: HostRuntime) -> Result<(), Fail> {
+    let alloc = rt.alloc();
+    for (at, byte, place) in [
+        (3, 0, 0),
+        (12, 0, 0),
+        (16, 1, 0),
+        (35, 255, 0),
+        (4095, 1, 0),
+        (4128, 1, 4096),
+        (8224, 1, 8192),
+    ] {
+        let head = read_head(alloc, &mut changed(alloc, at, &[byte])?);
+        assert_eq!(rt; head.err(), Some(LogFault::Bad { at: place }));
+    }
+    Ok(())
+}
+
+#[test]
+fn the_open_cell_with_the_greater_sequence_counts(rt: HostRuntime) -> Result<(), Fail> {
+    let alloc = rt.alloc();
+    let cell = b"\x05\0\0\0\0\0\0\0\x08\x30\0\0\0\0\0\0\x02\0\0\0\0\0\0\0\x09\0\0\0\0\0\0\0\x01";
+    let mut disk = changed(alloc, 8192, cell)?;
+    let start = Start {
+        sequence: 5,
+        place: 12296,
+        ordinal: 2,
+        last: 9,
+    };
+    assert_eq!(rt; read_head(alloc, &mut disk)?.start, start);
+    disk.write_at(4096, cell)?;
+    disk.write_at(4096, &[4])?;
+    assert_eq!(rt; read_head(alloc, &mut disk)?.start, start);
+    disk.write_at(4096, &[6])?;
+    assert_eq!(rt; read_head(alloc, &mut disk)?.start.sequence, 6);
+    disk.write_at(4129, &[1])?;
+    assert_eq!(rt;
+        read_head(alloc, &mut disk).err(),
+        Some(LogFault::Bad { at: 4096 })
+    );
+    Ok(())
+}
+
+#[test]
+fn a_chunk_is_whole_or_damaged_or_not_there(rt: HostRuntime) -> Result<(), Fail> {
+    let alloc = rt.alloc();
+    let past_the_end = b"\x01\xff\xff\xff\xff";
+    let mut disk = changed(alloc, 12296, past_the_end)?;
+    assert_eq!(rt;
+        read_chunk(alloc, &mut disk, 12296).err(),
+        Some(LogFault::Bad { at: 12296 })
+    );
+    disk.cut(12299)?;
+    assert_eq!(rt;
+        read_chunk(alloc, &mut disk, 12296).err(),
+        Some(LogFault::Bad { at: 12296 })
+    );
+    assert_eq!(rt; parts(&read_chunk(alloc, &mut disk, 12299)?), None);
+    assert_eq!(rt; parts(&read_chunk(alloc, &mut disk, 1 << 62)?), None);
+    disk.write_at(12296, &[2])?;
+    assert_eq!(rt; parts(&read_chunk(alloc, &mut disk, 12296)?), None);
+    Ok(())
+}
+
+#[test]
+fn a_log_that_is_not_opened_hands_its_device_back(rt: HostRuntime) -> Result<(), Fail> {
+    let alloc = rt.alloc();
+    for read in 1..=3 {
+        let mut disk = MemDisk::of(alloc, log_of_two(alloc)?.bytes())?;
+        disk.fail_at(read)?;
+        let Err((fault, mut disk)) = Log::open(alloc, disk) else {
+            return Err(Fail::new("the log is opened"));
+        };
+        assert_eq!(rt; fault, LogFault::Fault);
+        assert_eq!(rt;
+            parts(&read_chunk(alloc, &mut disk, 12288)?),
+            Some((b"one".as_slice(), 12296))
+        );
+    }
     Ok(())
 }

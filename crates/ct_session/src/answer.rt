@@ -14,7 +14,7 @@ ghost use Rattle.std.specs.Prelude.{find, ◌++◌};
 ghost use Rattle.std.specs.List.{list_all};
 ghost use Rattle.ct_definitions.specs.Keys.{key_of};
 ghost use Rattle.ct_session.specs.Replies.{spelling, no_memory};
-ghost use Rattle.ct_yard.specs.Yards.{IsSound};
+ghost use Rattle.ct_yard.specs.Yards.{IsSettled};
 ghost use Rattle.ct_session.specs.Steps.{takes_image, takes_target, takes_key, is_duplicate, row_in, look_reply, form_of_line};
 ghost use Rattle.ct_session.specs.Serving.{Serves, ServesBehind, AnswersLine, IsWhyNot, reply_of, said_of, said_by};
 
@@ -95,13 +95,12 @@ fn definition(
 }
 
 /// Makes the file of a `CREATE`.
-fn serve_create<L: Disk>(alloc: Global, yard: &mut Yard<L>, def: FileDef) -> Said
+fn serve_create<P: Disk, L: Disk>(alloc: Global, yard: &mut Yard<P, L>, def: FileDef) -> Said
     requires running { yard.old.halt ≡ None }
-    requires numbers { yard.old.front < 2 ^ 46 }
-    requires sound { IsSound L.tells L.content L.may_leave yard.old }
-    ensures serves { Serves L.tells L.faults L.content yard.old (Some (create def)) (reply_of result) yard.new }
-    ensures sound { IsSound L.tells L.content L.may_leave yard.new }
-    ensures one { yard.new.front ≤ yard.old.front + 1 }
+    requires settled { IsSettled yard.old }
+    ensures serves { Serves L.tells L.faults L.content L.may_leave L.left_since yard.old (Some (create def)) (reply_of result) yard.new }
+    ensures settled { IsSettled yard.new }
+    ensures pages { yard.new.pages ≡ yard.old.pages }
 {
     if !yard.state.files().is_empty() || !valid(&def) {
         return Said::Unbuilt;
@@ -133,13 +132,17 @@ fn number_for(alloc: Global, file: &File, image: &[u8]) -> Result<u64, Said>
 }
 
 /// Adds the record of an `ADD`.
-fn serve_add<L: Disk>(alloc: Global, yard: &mut Yard<L>, name: &[u8], image: &[u8]) -> Said
+fn serve_add<P: Disk, L: Disk>(
+    alloc: Global,
+    yard: &mut Yard<P, L>,
+    name: &[u8],
+    image: &[u8],
+) -> Said
     requires running { yard.old.halt ≡ None }
-    requires numbers { yard.old.front < 2 ^ 46 }
-    requires sound { IsSound L.tells L.content L.may_leave yard.old }
-    ensures serves { Serves L.tells L.faults L.content yard.old (Some (add name.now image.now)) (reply_of result) yard.new }
-    ensures sound { IsSound L.tells L.content L.may_leave yard.new }
-    ensures one { yard.new.front ≤ yard.old.front + 1 }
+    requires settled { IsSettled yard.old }
+    ensures serves { Serves L.tells L.faults L.content L.may_leave L.left_since yard.old (Some (add name.now image.now)) (reply_of result) yard.new }
+    ensures settled { IsSettled yard.new }
+    ensures pages { yard.new.pages ≡ yard.old.pages }
 {
     let Some(file) = yard.state.files().first() else {
         return Said::Unbuilt;
@@ -238,16 +241,16 @@ fn takes_key(name: &[u8], target: &[u8], index: &IndexDef) -> bool
 }
 
 /// Looks for the record of a `GET`, and writes the reply.
-fn serve_get<L: Disk>(
+fn serve_get<P: Disk, L: Disk>(
     alloc: Global,
-    yard: &Yard<L>,
+    yard: &Yard<P, L>,
     name: &[u8],
     index: &[u8],
     target: &[u8],
     out: &mut Vec<u8>,
 )
     requires { vec_len out.old + 64 ≤ vec_capacity out.old }
-    ensures serves { ServesBehind L.tells L.faults L.content yard.now (Some (get name.now index.now target.now)) yard.now out.old.items out.new.items }
+    ensures serves { ServesBehind L.tells L.faults L.content L.may_leave L.left_since yard.now (Some (get name.now index.now target.now)) yard.now out.old.items out.new.items }
     ensures capacity { vec_capacity out.old ≤ vec_capacity out.new }
 {
     match yard.state.files().first() {
@@ -257,9 +260,9 @@ fn serve_get<L: Disk>(
 }
 
 /// The same, in the store's one file.
-fn serve_get_in<L: Disk>(
+fn serve_get_in<P: Disk, L: Disk>(
     alloc: Global,
-    yard: &Yard<L>,
+    yard: &Yard<P, L>,
     file: &File,
     name: &[u8],
     index: &[u8],
@@ -269,7 +272,7 @@ fn serve_get_in<L: Disk>(
     requires first { slice_get yard.now.state 0 ≡ Some file.now }
     requires fitting { is_fitting file.now ≡ true }
     requires room { vec_len out.old + 64 ≤ vec_capacity out.old }
-    ensures serves { ServesBehind L.tells L.faults L.content yard.now (Some (get name.now index.now target.now)) yard.now out.old.items out.new.items }
+    ensures serves { ServesBehind L.tells L.faults L.content L.may_leave L.left_since yard.now (Some (get name.now index.now target.now)) yard.now out.old.items out.new.items }
     ensures capacity { vec_capacity out.old ≤ vec_capacity out.new }
 {
     if !takes_target(name, index, target, file) {
@@ -295,9 +298,9 @@ fn write_said(said: Said, out: &mut Vec<u8>)
 }
 
 /// Makes the file that a `CREATE` describes.
-fn serve_described<L: Disk>(
+fn serve_described<P: Disk, L: Disk>(
     alloc: Global,
-    yard: &mut Yard<L>,
+    yard: &mut Yard<P, L>,
     file: &[u8],
     len: u16,
     index: &[u8],
@@ -305,11 +308,10 @@ fn serve_described<L: Disk>(
     key_len: u16,
 ) -> Said
     requires running { yard.old.halt ≡ None }
-    requires numbers { yard.old.front < 2 ^ 46 }
-    requires sound { IsSound L.tells L.content L.may_leave yard.old }
-    ensures serves { Serves L.tells L.faults L.content yard.old (Some (create (file_def file.now len index.now at key_len))) (reply_of result) yard.new }
-    ensures sound { IsSound L.tells L.content L.may_leave yard.new }
-    ensures one { yard.new.front ≤ yard.old.front + 1 }
+    requires settled { IsSettled yard.old }
+    ensures serves { Serves L.tells L.faults L.content L.may_leave L.left_since yard.old (Some (create (file_def file.now len index.now at key_len))) (reply_of result) yard.new }
+    ensures settled { IsSettled yard.new }
+    ensures pages { yard.new.pages ≡ yard.old.pages }
 {
     match definition(alloc, file, len, index, at, key_len) {
         Ok(def) => serve_create(alloc, yard, def),
@@ -319,13 +321,17 @@ fn serve_described<L: Disk>(
 
 /// Answers one line of a session, which is none where it was too long, and writes the reply behind
 /// those that wait. After a halt each line has that halt's answer.
-pub fn serve<L: Disk>(alloc: Global, yard: &mut Yard<L>, line: Option<&[u8]>, out: &mut Vec<u8>)
+pub fn serve<P: Disk, L: Disk>(
+    alloc: Global,
+    yard: &mut Yard<P, L>,
+    line: Option<&[u8]>,
+    out: &mut Vec<u8>,
+)
     requires room { vec_len out.old + 64 ≤ vec_capacity out.old }
-    requires numbers { yard.old.front < 2 ^ 46 }
-    requires sound { IsSound L.tells L.content L.may_leave yard.old }
-    ensures answers { AnswersLine L.tells L.faults L.content yard.old (option_copied line.entry) yard.new out.old.items out.new.items }
-    ensures sound { IsSound L.tells L.content L.may_leave yard.new }
-    ensures one { yard.new.front ≤ yard.old.front + 1 }
+    requires settled { IsSettled yard.old }
+    ensures answers { AnswersLine L.tells L.faults L.content L.may_leave L.left_since yard.old (option_copied line.entry) yard.new out.old.items out.new.items }
+    ensures settled { IsSettled yard.new }
+    ensures pages { yard.new.pages ≡ yard.old.pages }
     ensures capacity { vec_capacity out.old ≤ vec_capacity out.new }
 {
     match yard.halt {
@@ -345,19 +351,18 @@ fn request_of_line(line: Option<&[u8]>) -> Option<Request<'_>>
 }
 
 /// Answers a line without a request, or with one, where the store runs.
-fn serve_running<L: Disk>(
+fn serve_running<P: Disk, L: Disk>(
     alloc: Global,
-    yard: &mut Yard<L>,
+    yard: &mut Yard<P, L>,
     request: Option<Request<'_>>,
     out: &mut Vec<u8>,
 )
     requires running { yard.old.halt ≡ None }
     requires room { vec_len out.old + 64 ≤ vec_capacity out.old }
-    requires numbers { yard.old.front < 2 ^ 46 }
-    requires sound { IsSound L.tells L.content L.may_leave yard.old }
-    ensures serves { ServesBehind L.tells L.faults L.content yard.old (option_map asked request.entry) yard.new out.old.items out.new.items }
-    ensures sound { IsSound L.tells L.content L.may_leave yard.new }
-    ensures one { yard.new.front ≤ yard.old.front + 1 }
+    requires settled { IsSettled yard.old }
+    ensures serves { ServesBehind L.tells L.faults L.content L.may_leave L.left_since yard.old (option_map asked request.entry) yard.new out.old.items out.new.items }
+    ensures settled { IsSettled yard.new }
+    ensures pages { yard.new.pages ≡ yard.old.pages }
     ensures capacity { vec_capacity out.old ≤ vec_capacity out.new }
 {
     match request {
@@ -367,19 +372,18 @@ fn serve_running<L: Disk>(
 }
 
 /// Answers a request where the store runs.
-fn serve_request<L: Disk>(
+fn serve_request<P: Disk, L: Disk>(
     alloc: Global,
-    yard: &mut Yard<L>,
+    yard: &mut Yard<P, L>,
     request: Request<'_>,
     out: &mut Vec<u8>,
 )
     requires running { yard.old.halt ≡ None }
     requires room { vec_len out.old + 64 ≤ vec_capacity out.old }
-    requires numbers { yard.old.front < 2 ^ 46 }
-    requires sound { IsSound L.tells L.content L.may_leave yard.old }
-    ensures serves { ServesBehind L.tells L.faults L.content yard.old (Some (asked request.entry)) yard.new out.old.items out.new.items }
-    ensures sound { IsSound L.tells L.content L.may_leave yard.new }
-    ensures one { yard.new.front ≤ yard.old.front + 1 }
+    requires settled { IsSettled yard.old }
+    ensures serves { ServesBehind L.tells L.faults L.content L.may_leave L.left_since yard.old (Some (asked request.entry)) yard.new out.old.items out.new.items }
+    ensures settled { IsSettled yard.new }
+    ensures pages { yard.new.pages ≡ yard.old.pages }
     ensures capacity { vec_capacity out.old ≤ vec_capacity out.new }
 {
     match request {

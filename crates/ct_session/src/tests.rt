@@ -1,35 +1,41 @@
 //! A session over a log in memory: a file made, a record added and found, and refusals.
 
 ghost use Rattle.std.specs.Prelude.{◌≡◌, ◌≤◌, ◌<◌, ◌+◌, ◌^◌, IfOk};
-ghost use Rattle.ct_yard.specs.Yards.{IsSound};
+ghost use Rattle.ct_yard.specs.Yards.{IsSettled};
 
 use crate::{LONGEST_PLAIN_REPLY, Request, request_of, serve};
 use ct_disk::{Disk, DiskError, MemDisk};
 use ct_log::{Log, make_log, open_gate};
+use ct_model::State;
 use ct_yard::Yard;
 use std::alloc::{AllocError, Global};
 
 // a store without files
-fn new_yard<L: Disk + Drop>(alloc: Global, mut device: L) -> Result<Yard<L>, DiskError>
-    ensures sound { IfOk result (λ yard. IsSound L.tells L.content L.may_leave yard) }
-    ensures front { IfOk result (λ yard. yard.front ≡ 0) }
+fn new_yard<P: Disk + Drop, L: Disk + Drop>(
+    alloc: Global,
+    pages: P,
+    mut device: L,
+) -> Result<Yard<P, L>, DiskError>
+    ensures settled { IfOk result (λ yard. IsSettled yard) }
 {
     make_log(&mut device, b"STORE", 0)?;
     open_gate(&mut device)?;
-    Ok(Yard::new(alloc, Log::begin(alloc, device)))
+    let Ok((log, _)) = Log::open(alloc, device) else {
+        return Err(DiskError::Memory);
+    };
+    Ok(Yard::assemble(pages, State::new(alloc), log, 0))
 }
 
 // adds the reply to a line
-fn answer<L: Disk>(
+fn answer<P: Disk, L: Disk>(
     alloc: Global,
-    yard: &mut Yard<L>,
+    yard: &mut Yard<P, L>,
     line: &[u8],
     replies: &mut Vec<u8>,
 ) -> Result<(), AllocError>
-    requires numbers { yard.old.front < 2 ^ 46 }
-    requires sound { IsSound L.tells L.content L.may_leave yard.old }
-    ensures sound { IsSound L.tells L.content L.may_leave yard.new }
-    ensures one { yard.new.front ≤ yard.old.front + 1 }
+    requires settled { IsSettled yard.old }
+    ensures settled { IsSettled yard.new }
+    ensures pages { yard.new.pages ≡ yard.old.pages }
 {
     replies.reserve(LONGEST_PLAIN_REPLY)?;
     serve(alloc, yard, Some(line), replies);
@@ -37,15 +43,13 @@ fn answer<L: Disk>(
 }
 
 // the replies to three lines
-fn answers<L: Disk>(
+fn answers<P: Disk, L: Disk>(
     alloc: Global,
-    yard: &mut Yard<L>,
+    yard: &mut Yard<P, L>,
     lines: (&str, &str, &str),
 ) -> Result<Vec<u8>, AllocError>
-    requires numbers { yard.old.front < 2 ^ 45 }
-    requires sound { IsSound L.tells L.content L.may_leave yard.old }
-    ensures sound { IsSound L.tells L.content L.may_leave yard.new }
-    ensures three { yard.new.front ≤ yard.old.front + 3 }
+    requires settled { IsSettled yard.old }
+    ensures settled { IsSettled yard.new }
 {
     let mut replies = Vec::new(alloc);
     answer(alloc, yard, lines.0.as_bytes(), &mut replies)?;
@@ -55,8 +59,9 @@ fn answers<L: Disk>(
 }
 
 // lets a store go
-fn close<L: Disk + Drop>(yard: Yard<L>) {
+fn close<P: Disk + Drop, L: Disk + Drop>(yard: Yard<P, L>) {
     let Yard {
+        pages: _pages,
         state: _state,
         log: _log,
         front: _,
@@ -67,7 +72,7 @@ fn close<L: Disk + Drop>(yard: Yard<L>) {
 #[test]
 fn a_record_is_added_and_found(rt: HostRuntime) {
     let alloc = rt.alloc();
-    let mut yard = new_yard(alloc, MemDisk::new(alloc)).expect(&rt, "a store");
+    let mut yard = new_yard(alloc, MemDisk::new(alloc), MemDisk::new(alloc)).expect(&rt, "a store");
     let lines = (
         "CREATE part FIX 4 KEY id UNIQUE SEG REGSEG 0 4",
         "ADD part 0001",

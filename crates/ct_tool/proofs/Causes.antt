@@ -15,10 +15,11 @@ use Rattle.ct_definitions.specs.Histories.{last_number}
 use Rattle.ct_session.specs.Steps.{Step, Answers, Writes, met_form, form_of_line, is_duplicate}
 use Rattle.ct_tool.specs.declared.input.Stop.{Stop}
 use Rattle.ct_tool.specs.declared.input.Stop.TheVariants.{End, Source as SourceFailed, Sink as SinkFailed, Memory as NoRoom, Long as TooLong}
-use Rattle.ct_tool.specs.declared.ended.Cause.TheVariants.{Done, Usage, Unbuilt, Device, Long}
+use Rattle.ct_tool.specs.declared.ended.Cause.{Cause}
+use Rattle.ct_tool.specs.declared.ended.Cause.TheVariants.{Done, Usage, Unbuilt, Undone, NotEmpty, BadLog as BadLogAt, BadPage as BadPageAt, Limit as AtLimit, Device, Memory, Source, Sink, Long}
 use Rattle.ct_tool.specs.Ends.{stopped_by, halted_by}
 use Rattle.ct_tool.specs.Told.{HasStopCause}
-use Rattle.ct_tool.specs.Runs.{HasRunCause}
+use Rattle.ct_tool.specs.Runs.{IsSessionCause, HasRunCause}
 
 -- what holds of a machine since its first count: a running one has failed no less often, and a halted one has its cause
 abbrev pub IsCaused : ℕ → Machine → Type 0
@@ -33,9 +34,9 @@ caused_since NoRoomLeft a b c earlier has = omega (arith, has)
 caused_since Read a b c earlier has = has
 caused_since (BadPage page) a b c earlier has = has
 caused_since (BadLog place) a b c earlier has = has
-caused_since Limit a b c earlier has = has
+caused_since Limit a b c earlier has = omega (arith, has)
 
-running_is_caused : (halt : Option HaltCause) (A : Type 0) (P : HaltCause → Type 0) → halt ≡ None → A → MatchOption halt A P
+pub running_is_caused : (halt : Option HaltCause) (A : Type 0) (P : HaltCause → Type 0) → halt ≡ None → A → MatchOption halt A P
 running_is_caused None A P same a = a
 running_is_caused (Some cause) A P same a = absurd (cc)
 
@@ -79,48 +80,34 @@ pub caused_served : (first : ℕ) (m : Machine) (lines : List (Option (List ℕ)
 caused_served first m [] text next caused served = same_is_caused first m next caused served.1
 caused_served first m (line ∷ lines) text next caused served = caused_served first served.1 lines served.2 next (caused_step first m line served.0 served.1 caused served.3) served.5
 
--- DEVICE only where the log's count rose
-pub device_rose : (stop : Stop) (halt : Option HaltCause) (first now : ℕ) → MatchOption halt (first ≤ now) (λ cause. HasHaltCause cause first now) → stopped_by stop halt ≡ Device → Rose first now
-device_rose End None first now caused why = absurd (cc)
-device_rose End (Some Write) first now caused why = caused
-device_rose End (Some Read) first now caused why = absurd caused
-device_rose End (Some NoRoomLeft) first now caused why = absurd (cc)
-device_rose End (Some (BadPage page)) first now caused why = absurd caused
-device_rose End (Some (BadLog place)) first now caused why = absurd caused
-device_rose End (Some Limit) first now caused why = absurd caused
-device_rose SourceFailed halt first now caused why = absurd (cc)
-device_rose SinkFailed halt first now caused why = absurd (cc)
-device_rose NoRoom halt first now caused why = absurd (cc)
-device_rose TooLong halt first now caused why = absurd (cc)
-
 -- whose count rose, of a run that a session's input and its halt ended
-pub run_cause : (stop : Stop) (halt : Option HaltCause) (log log' source source' sink sink' : ℕ) → HasStopCause stop source source' sink sink' → MatchOption halt (log ≤ log') (λ cause. HasHaltCause cause log log')
-    → HasRunCause (stopped_by stop halt) log log' source source' sink sink'
-run_cause End None log log' source source' sink sink' stopped caused = stopped
-run_cause End (Some Write) log log' source source' sink sink' stopped caused = caused
-run_cause End (Some Read) log log' source source' sink sink' stopped caused = absurd caused
-run_cause End (Some NoRoomLeft) log log' source source' sink sink' stopped caused = stopped
-run_cause End (Some (BadPage page)) log log' source source' sink sink' stopped caused = absurd caused
-run_cause End (Some (BadLog place)) log log' source source' sink sink' stopped caused = absurd caused
-run_cause End (Some Limit) log log' source source' sink sink' stopped caused = absurd caused
-run_cause SourceFailed halt log log' source source' sink sink' stopped caused = stopped.0
-run_cause SinkFailed halt log log' source source' sink sink' stopped caused = stopped.1
-run_cause NoRoom halt log log' source source' sink sink' stopped caused = stopped
-run_cause TooLong halt log log' source source' sink sink' stopped caused = stopped
+pub run_cause : (stop : Stop) (halt : Option HaltCause) (pages log log' source source' sink sink' : ℕ) → HasStopCause stop source source' sink sink' → MatchOption halt (log ≤ log') (λ cause. HasHaltCause cause log log')
+    → HasRunCause (stopped_by stop halt) pages pages log log' source source' sink sink'
+run_cause End None pages log log' source source' sink sink' stopped caused = stopped
+run_cause End (Some Write) pages log log' source source' sink sink' stopped caused = inr caused
+run_cause End (Some Read) pages log log' source source' sink sink' stopped caused = absurd caused
+run_cause End (Some NoRoomLeft) pages log log' source source' sink sink' stopped caused = stopped
+run_cause End (Some (BadPage page)) pages log log' source source' sink sink' stopped caused = absurd caused
+run_cause End (Some (BadLog place)) pages log log' source source' sink sink' stopped caused = absurd caused
+run_cause End (Some Limit) pages log log' source source' sink sink' stopped caused = stopped
+run_cause SourceFailed halt pages log log' source source' sink sink' stopped caused = stopped.0
+run_cause SinkFailed halt pages log log' source source' sink sink' stopped caused = stopped.1
+run_cause NoRoom halt pages log log' source source' sink sink' stopped caused = stopped
+run_cause TooLong halt pages log log' source source' sink sink' stopped caused = stopped
 
--- a session is no wrong usage and nothing unbuilt
-pub session_causes : (stop : Stop) (halt : Option HaltCause) → (stopped_by stop halt ≢ Usage) × (stopped_by stop halt ≢ Unbuilt)
-session_causes End None = (λ same. cc, λ same. cc)
-session_causes End (Some Write) = (λ same. cc, λ same. cc)
-session_causes End (Some Read) = (λ same. cc, λ same. cc)
-session_causes End (Some NoRoomLeft) = (λ same. cc, λ same. cc)
-session_causes End (Some (BadPage page)) = (λ same. cc, λ same. cc)
-session_causes End (Some (BadLog place)) = (λ same. cc, λ same. cc)
-session_causes End (Some Limit) = (λ same. cc, λ same. cc)
-session_causes SourceFailed halt = (λ same. cc, λ same. cc)
-session_causes SinkFailed halt = (λ same. cc, λ same. cc)
-session_causes NoRoom halt = (λ same. cc, λ same. cc)
-session_causes TooLong halt = (λ same. cc, λ same. cc)
+-- how a session's run may end
+pub session_cause : (stop : Stop) (halt : Option HaltCause) (log log' : ℕ) → MatchOption halt (log ≤ log') (λ cause. HasHaltCause cause log log') → IsSessionCause (stopped_by stop halt)
+session_cause End None log log' caused = tt
+session_cause End (Some Write) log log' caused = tt
+session_cause End (Some Read) log log' caused = absurd caused
+session_cause End (Some NoRoomLeft) log log' caused = tt
+session_cause End (Some (BadPage page)) log log' caused = absurd caused
+session_cause End (Some (BadLog place)) log log' caused = absurd caused
+session_cause End (Some Limit) log log' caused = tt
+session_cause SourceFailed halt log log' caused = tt
+session_cause SinkFailed halt log log' caused = tt
+session_cause NoRoom halt log log' caused = tt
+session_cause TooLong halt log log' caused = tt
 
 -- DONE only where the input came to its end, LONG only where it was too long
 pub done_at_end : (stop : Stop) (halt : Option HaltCause) → stopped_by stop halt ≡ Done → stop ≡ End
@@ -145,3 +132,19 @@ long_at_long SourceFailed halt why = absurd (cc)
 long_at_long SinkFailed halt why = absurd (cc)
 long_at_long NoRoom halt why = absurd (cc)
 long_at_long TooLong halt why = refl
+
+-- a count that rose since later rose since earlier
+pub cause_since : (cause : Cause) (p p' p'' l l' l'' source source' sink sink' : ℕ) → p ≤ p' → l ≤ l' → HasRunCause cause p' p'' l' l'' source source' sink sink' → HasRunCause cause p p'' l l'' source source' sink sink'
+cause_since Device p p' p'' l l' l'' source source' sink sink' pages log has = elim has [ inl rose ↦ inl (rose_since p p' p'' pages rose) | inr rose ↦ inr (rose_since l l' l'' log rose) ]
+cause_since Source p p' p'' l l' l'' source source' sink sink' pages log has = has
+cause_since Sink p p' p'' l l' l'' source source' sink sink' pages log has = has
+cause_since Done p p' p'' l l' l'' source source' sink sink' pages log has = has
+cause_since Usage p p' p'' l l' l'' source source' sink sink' pages log has = has
+cause_since Unbuilt p p' p'' l l' l'' source source' sink sink' pages log has = has
+cause_since Undone p p' p'' l l' l'' source source' sink sink' pages log has = has
+cause_since NotEmpty p p' p'' l l' l'' source source' sink sink' pages log has = has
+cause_since (BadLogAt place) p p' p'' l l' l'' source source' sink sink' pages log has = has
+cause_since (BadPageAt page) p p' p'' l l' l'' source source' sink sink' pages log has = has
+cause_since AtLimit p p' p'' l l' l'' source source' sink sink' pages log has = has
+cause_since Memory p p' p'' l l' l'' source source' sink sink' pages log has = has
+cause_since Long p p' p'' l l' l'' source source' sink sink' pages log has = has

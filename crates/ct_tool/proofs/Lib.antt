@@ -1,2 +1,6 @@
-pub mod Tellings
 pub mod Causes
+pub mod Endings
+pub mod Growing
+pub mod Keeping
+pub mod Making
+pub mod Tellings

@@ -1,11 +1,11 @@
 -- What serving lines does to the yard, the source and the sink.
-use Rattle.std.specs.Prelude.{◌≡◌, ◌⊎◌, ℕ, List, [], ◌++◌, Bool, Option, Some, Result, Ok, Err}
+use Rattle.std.specs.Prelude.{◌≡◌, ◌⊎◌, ℕ, List, [], ◌++◌, Bool, IsTrue, Option, Some, Result, Ok, Err}
 use Rattle.std.specs.Io.KnownBytes.{Appends}
 use Rattle.ct_transcript.specs.Transcript.{Answered}
 use Rattle.ct_yard.specs.declared.yard.Yard.{Yard}
 use Rattle.ct_yard.specs.Machine.{Machine}
-use Rattle.ct_yard.specs.Yards.{StandsFor}
-use Rattle.ct_session.specs.Replies.{spelling}
+use Rattle.ct_yard.specs.Yards.{StandsFor, KeptThrough}
+use Rattle.ct_session.specs.Replies.{Reply, spelling}
 use Rattle.ct_session.specs.Steps.{Step}
 use Rattle.ct_lines.specs.Lines.{lines_from, lines_of}
 use Rattle.ct_link.specs.Faults.{Rose}
@@ -14,21 +14,34 @@ use Rattle.ct_link.specs.declared.sink.SinkError.TheVariants.{Fault, Memory}
 use Rattle.ct_tool.specs.declared.input.Stop.{Stop}
 use Rattle.ct_tool.specs.declared.input.Stop.TheVariants.{End, Source, Sink, Memory as NoRoom, Long}
 
+-- a machine, and its log at that moment
+pub record Moment (L : Type 0) : Type 0 where
+  pub machine : Machine
+  pub log : L
+
+-- the machine that a yard stands for, at this moment
+abbrev pub at_moment : {P L : Type 0} → Machine → Yard P L → Moment L
+at_moment machine yard = record { machine = machine; log = yard.log.device }
+
+-- A line is answered, and at each moment until the next a crash leaves each acknowledged transaction.
+abbrev pub KeptStep : {L : Type 0} → Bool → (L → L → List ℕ → Type 0) → List ℕ → Moment L → Option (List ℕ) → Reply → Moment L → Type 0
+KeptStep founded left_since front old line reply new = Step old.machine line reply new.machine × KeptThrough founded left_since front old.machine old.log new.machine new.log
+
 -- replies that wait are put: all but those that still wait, or at an error a first part
 abbrev pub Puts : {E : Type 0} → Result Unit E → Option (List ℕ) → Option (List ℕ) → List ℕ → List ℕ → Type 0
 Puts (Ok _) old new waiting now = (part : List ℕ) × Appends old new part × (waiting ≡ part ++ now)
 Puts (Err _) old new waiting now = (part left : List ℕ) × Appends old new part × (waiting ≡ part ++ left)
 
 -- lines are answered; at an error what is left of the replies is lost
-abbrev pub AnsweredBy : {E : Type 0} → Result Unit E → Machine → List (Option (List ℕ)) → Machine → Option (List ℕ) → Option (List ℕ) → List ℕ → List ℕ → Type 0
-AnsweredBy (Ok _) old lines new written now_written waiting now = Answered Step spelling old lines new written now_written waiting now
-AnsweredBy (Err _) old lines new written now_written waiting now = (left : List ℕ) × Answered Step spelling old lines new written now_written waiting left
+abbrev pub AnsweredBy : {L E : Type 0} → Bool → (L → L → List ℕ → Type 0) → List ℕ → Result Unit E → Moment L → List (Option (List ℕ)) → Moment L → Option (List ℕ) → Option (List ℕ) → List ℕ → List ℕ → Type 0
+AnsweredBy founded left_since front (Ok _) old lines new written now_written waiting now = Answered (KeptStep founded left_since front) spelling old lines new written now_written waiting now
+AnsweredBy founded left_since front (Err _) old lines new written now_written waiting now = (left : List ℕ) × Answered (KeptStep founded left_since front) spelling old lines new written now_written waiting left
 
 -- a yard answers lines over a sink
-abbrev pub ServesLines : {L E : Type 0} → Bool → (L → ℕ) → (L → List ℕ) → Result Unit E → Yard L → List (Option (List ℕ)) → Yard L → Option (List ℕ) → Option (List ℕ) → List ℕ → List ℕ → Type 0
-ServesLines tells count_of content result old lines new written now_written waiting now =
-    (id : List ℕ) (machine : Machine) → StandsFor tells count_of content id machine old →
-    (next : Machine) × AnsweredBy result machine lines next written now_written waiting now × StandsFor tells count_of content id next new
+abbrev pub ServesLines : {P L E : Type 0} → Bool → (L → ℕ) → (L → List ℕ) → (L → List ℕ → Type 0) → (L → L → List ℕ → Type 0) → Result Unit E → Yard P L → List (Option (List ℕ)) → Yard P L → Option (List ℕ) → Option (List ℕ) → List ℕ → List ℕ → Type 0
+ServesLines tells count_of content may_leave left_since result old lines new written now_written waiting now =
+    (founded : Bool) (front : List ℕ) (machine : Machine) → (IsTrue founded → IsTrue tells) → StandsFor founded count_of content may_leave front machine old →
+    (next : Machine) × AnsweredBy founded left_since front result (at_moment machine old) lines (at_moment next new) written now_written waiting now × StandsFor founded count_of content may_leave front next new
 
 -- the lines that were answered when a session's input stopped: all; those that had ended; or, where the sink refused, either
 abbrev pub AreLines : Stop → List ℕ → List (Option (List ℕ)) → Type 0
@@ -55,16 +68,16 @@ HasStopCause Sink source source' sink sink' = (source' ≡ source) × Rose sink 
 HasStopCause NoRoom source source' sink sink' = (source' ≡ source) × (sink' ≡ sink)
 
 -- bytes were taken, and the lines that ended in them answered, with nothing waiting
-pub record SoFar {L : Type 0} (tells : Bool) (count_of : L → ℕ) (content : L → List ℕ) (bytes : List ℕ) (old new : Yard L) (taken now_taken written now_written : Option (List ℕ)) : Type 0 where
+pub record SoFar {P L : Type 0} (tells : Bool) (count_of : L → ℕ) (content : L → List ℕ) (may_leave : L → List ℕ → Type 0) (left_since : L → L → List ℕ → Type 0) (bytes : List ℕ) (old new : Yard P L) (taken now_taken written now_written : Option (List ℕ)) : Type 0 where
   pub took : Appends taken now_taken bytes
-  pub answers : (id : List ℕ) (machine : Machine) → StandsFor tells count_of content id machine old →
-      (next : Machine) × Answered Step spelling machine (lines_from (Some []) bytes) next written now_written [] [] × StandsFor tells count_of content id next new
+  pub answers : (founded : Bool) (front : List ℕ) (machine : Machine) → (IsTrue founded → IsTrue tells) → StandsFor founded count_of content may_leave front machine old →
+      (next : Machine) × Answered (KeptStep founded left_since front) spelling (at_moment machine old) (lines_from (Some []) bytes) (at_moment next new) written now_written [] [] × StandsFor founded count_of content may_leave front next new
 
 -- a session's input was served until it stopped
-pub record ServesInput {L : Type 0} (tells : Bool) (count_of : L → ℕ) (content : L → List ℕ) (stop : Stop) (bytes : List ℕ) (old new : Yard L) (taken now_taken written now_written : Option (List ℕ)) : Type 0 where
+pub record ServesInput {P L : Type 0} (tells : Bool) (count_of : L → ℕ) (content : L → List ℕ) (may_leave : L → List ℕ → Type 0) (left_since : L → L → List ℕ → Type 0) (stop : Stop) (bytes : List ℕ) (old new : Yard P L) (taken now_taken written now_written : Option (List ℕ)) : Type 0 where
   pub took : Appends taken now_taken bytes
-  pub answers : (id : List ℕ) (machine : Machine) → StandsFor tells count_of content id machine old →
-      (next : Machine) × (lines : List (Option (List ℕ))) × (left : List ℕ) × AreLines stop bytes lines × Answered Step spelling machine lines next written now_written [] left × IsLeft stop left × StandsFor tells count_of content id next new
+  pub answers : (founded : Bool) (front : List ℕ) (machine : Machine) → (IsTrue founded → IsTrue tells) → StandsFor founded count_of content may_leave front machine old →
+      (next : Machine) × (lines : List (Option (List ℕ))) × (left : List ℕ) × AreLines stop bytes lines × Answered (KeptStep founded left_since front) spelling (at_moment machine old) lines (at_moment next new) written now_written [] left × IsLeft stop left × StandsFor founded count_of content may_leave front next new
 
 -- how a sink's refusal stops the input
 abbrev pub stop_of : SinkError → Stop

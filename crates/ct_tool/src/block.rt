@@ -4,7 +4,7 @@ ghost use Rattle.std.specs.Prelude.{◌≡◌, ◌≤◌, ◌<◌, ◌+◌, ◌^
 ghost use Rattle.std.specs.Option.{option_copied};
 ghost use Rattle.ct_link.specs.Sink.{HasSinkCause};
 ghost use Rattle.ct_lines.specs.Lines.{lines_from, held_after};
-ghost use Rattle.ct_yard.specs.Yards.{IsSound};
+ghost use Rattle.ct_yard.specs.Yards.{IsSettled};
 ghost use Rattle.ct_tool.specs.Told.{Puts, ServesLines};
 
 use ct_disk::Disk;
@@ -51,19 +51,18 @@ fn make_room<O: Sink>(replies: &mut Vec<u8>, out: &mut O) -> Result<(), SinkErro
 }
 
 /// Answers one line, which is none where it was too long.
-pub(crate) fn serve_line<L: Disk, O: Sink>(
+pub(crate) fn serve_line<P: Disk, L: Disk, O: Sink>(
     alloc: Global,
-    yard: &mut Yard<L>,
+    yard: &mut Yard<P, L>,
     line: Option<&[u8]>,
     replies: &mut Vec<u8>,
     out: &mut O,
 ) -> Result<(), SinkError>
     requires room { REPLIES_ROOM ≤ vec_capacity replies.old }
-    requires numbers { yard.old.front < 2 ^ 46 }
-    requires sound { IsSound L.tells L.content L.may_leave yard.old }
-    ensures serves { ServesLines L.tells L.faults L.content result yard.old (option_copied line.entry ∷ []) yard.new (O.written out.old) (O.written out.new) replies.old.items replies.new.items }
-    ensures sound { IsSound L.tells L.content L.may_leave yard.new }
-    ensures one { yard.new.front ≤ yard.old.front + 1 }
+    requires settled { IsSettled yard.old }
+    ensures serves { ServesLines L.tells L.faults L.content L.may_leave L.left_since result yard.old (option_copied line.entry ∷ []) yard.new (O.written out.old) (O.written out.new) replies.old.items replies.new.items }
+    ensures settled { IsSettled yard.new }
+    ensures pages { yard.new.pages ≡ yard.old.pages }
     ensures capacity { vec_capacity replies.old ≤ vec_capacity replies.new }
     ensures later { O.faults out.old ≤ O.faults out.new }
     ensures cause { HasSinkCause result (O.faults out.old) (O.faults out.new) }
@@ -76,21 +75,20 @@ pub(crate) fn serve_line<L: Disk, O: Sink>(
 }
 
 /// Answers each line that ends in the block, and holds what stands behind the last.
-pub(crate) fn serve_block<L: Disk, O: Sink>(
+pub(crate) fn serve_block<P: Disk, L: Disk, O: Sink>(
     alloc: Global,
-    yard: &mut Yard<L>,
+    yard: &mut Yard<P, L>,
     held: &mut Held,
     block: &[u8],
     replies: &mut Vec<u8>,
     out: &mut O,
 ) -> Result<(), SinkError>
     requires room { REPLIES_ROOM ≤ vec_capacity replies.old }
-    requires numbers { yard.old.front + length block.now < 2 ^ 46 }
-    requires sound { IsSound L.tells L.content L.may_leave yard.old }
-    ensures serves { ServesLines L.tells L.faults L.content result yard.old (lines_from held.old block.now) yard.new (O.written out.old) (O.written out.new) replies.old.items replies.new.items }
+    requires settled { IsSettled yard.old }
+    ensures serves { ServesLines L.tells L.faults L.content L.may_leave L.left_since result yard.old (lines_from held.old block.now) yard.new (O.written out.old) (O.written out.new) replies.old.items replies.new.items }
     ensures held { OnOk result (held.new ≡ held_after held.old block.now) }
-    ensures sound { IsSound L.tells L.content L.may_leave yard.new }
-    ensures some { yard.new.front ≤ yard.old.front + length block.now }
+    ensures settled { IsSettled yard.new }
+    ensures pages { yard.new.pages ≡ yard.old.pages }
     ensures capacity { vec_capacity replies.old ≤ vec_capacity replies.new }
     ensures later { O.faults out.old ≤ O.faults out.new }
     ensures cause { HasSinkCause result (O.faults out.old) (O.faults out.new) }

@@ -1,10 +1,12 @@
 //! How a run ends.
 
 ghost use Rattle.std.specs.Prelude.{◌≡◌};
-ghost use Rattle.ct_tool.specs.Ends.{status_of, stopped_by};
+ghost use Rattle.ct_tool.specs.Ends.{status_of, stopped_by, open_cause, put_cause};
 
 use crate::input::Stop;
 use ct_disk::HaltCause;
+use ct_link::SinkError;
+use ct_recover::OpenFault;
 use thiserror::Error;
 
 /// Why a run ended, in the words that are printed.
@@ -16,9 +18,24 @@ pub enum Cause {
     /// The words are no command.
     #[error("USAGE")]
     Usage,
-    /// The command, or what the log holds, is not built yet.
+    /// The command is not built yet.
     #[error("UNBUILT")]
     Unbuilt,
+    /// There is no store.
+    #[error("UNDONE")]
+    Undone,
+    /// There is a store already.
+    #[error("NOTEMPTY")]
+    NotEmpty,
+    /// The log is damaged at this place.
+    #[error("BADLOG {0}")]
+    BadLog(u64),
+    /// A page is damaged.
+    #[error("BADPAGE {0}")]
+    BadPage(u64),
+    /// A number stands at its last value.
+    #[error("LIMIT")]
+    Limit,
     /// A device failed.
     #[error("DEVICE")]
     Device,
@@ -44,7 +61,12 @@ impl Cause {
         match self {
             Cause::Done => 0,
             Cause::Usage => 1,
-            Cause::Unbuilt => 2,
+            Cause::Unbuilt
+            | Cause::Undone
+            | Cause::NotEmpty
+            | Cause::BadLog(_)
+            | Cause::BadPage(_)
+            | Cause::Limit => 2,
             Cause::Device => 3,
             Cause::Memory => 4,
             Cause::Source => 5,
@@ -89,12 +111,39 @@ pub(crate) fn cause_of(stop: Stop, halt: Option<HaltCause>) -> Cause
     match stop {
         Stop::End => match halt {
             None => Cause::Done,
+            Some(HaltCause::Write | HaltCause::Read) => Cause::Device,
             Some(HaltCause::Memory) => Cause::Memory,
-            Some(_) => Cause::Device,
+            Some(HaltCause::BadPage(page)) => Cause::BadPage(page),
+            Some(HaltCause::BadLog(place)) => Cause::BadLog(place),
+            Some(HaltCause::Limit) => Cause::Limit,
         },
         Stop::Source => Cause::Source,
         Stop::Sink => Cause::Sink,
         Stop::Memory => Cause::Memory,
         Stop::Long => Cause::Long,
+    }
+}
+
+/// Why a run ended whose store was not made or not opened.
+pub(crate) fn open_cause(fault: OpenFault) -> Cause
+    ensures { result ≡ open_cause fault }
+{
+    match fault {
+        OpenFault::NotEmpty => Cause::NotEmpty,
+        OpenFault::Undone => Cause::Undone,
+        OpenFault::BadLog(place) => Cause::BadLog(place),
+        OpenFault::Device => Cause::Device,
+        OpenFault::Memory => Cause::Memory,
+    }
+}
+
+/// Why a run ended whose line was put, or was not.
+pub(crate) fn put_cause(put: Result<(), SinkError>) -> Cause
+    ensures { result ≡ put_cause put }
+{
+    match put {
+        Ok(()) => Cause::Done,
+        Err(SinkError::Fault) => Cause::Sink,
+        Err(SinkError::Memory) => Cause::Memory,
     }
 }

@@ -1,140 +1,51 @@
-//! `exec`: a store made on an empty log, and one session over the input.
+//! `exec`: the store opened, and one session over the input.
 
-ghost use Rattle.std.specs.Prelude.{◌≡◌, ◌≤◌, ◌+◌, [], ◌∷◌, ◌++◌, List, ℕ, Some, IfOk, OnOk, IsTrue, codes, vec_capacity, vec_len};
-ghost use Rattle.ct_disk.specs.Disk.{Only, HasCause};
-ghost use Rattle.ct_log.specs.Front.{front};
-ghost use Rattle.std.specs.Prelude.{◌≢◌, ◌⊎◌, ◌<◌, ◌^◌};
-ghost use Rattle.std.specs.Io.KnownBytes.{IsAtEnd};
+ghost use Rattle.std.specs.Prelude.{◌≡◌, ◌⊎◌, ◌<◌, ◌≤◌, ◌+◌, ◌^◌, ℕ, List, false, IsTrue};
+ghost use Rattle.std.specs.Io.KnownBytes.{IsAtEnd, Keeps};
+ghost use Rattle.ct_definitions.specs.Histories.{History};
+ghost use Rattle.ct_log.specs.Heads.{has_open_header};
+ghost use Rattle.ct_log.specs.declared.head.Head.{Head};
+ghost use Rattle.ct_yard.specs.Kept.{Founds, Kept};
+ghost use Rattle.ct_log.specs.Reading.{IsRead, log_bytes};
+ghost use Rattle.ct_recover.specs.Opening.{IsBad};
 ghost use Rattle.ct_tool.specs.Ends.{status_of};
-ghost use Rattle.ct_tool.specs.Runs.{RanSession, Runs, HasRunCause};
+ghost use Rattle.ct_tool.specs.Runs.{RanSession, RanNone, StaysKept, IsExecCause, HasRunCause};
 
-use crate::block::REPLIES_ROOM;
-use crate::ended::{Cause, Ended, cause_of};
-use crate::input::serve_input;
-use ct_disk::{Disk, DiskError, DiskFault};
-use ct_items::NoMemory;
-use ct_lines::Held;
+use crate::ended::{Cause, Ended, open_cause};
+use crate::session::{Room, run_session};
+use ct_disk::Disk;
 use ct_link::{Sink, Source};
-use ct_log::{Log, make_log, open_gate};
-use ct_yard::Yard;
+use ct_recover::open_store;
 use std::alloc::Global;
 
-/// The id of a store that `exec` makes.
-const ID: &[u8; 5] = b"first";
-
-/// Input is taken in blocks of this many bytes.
-const BLOCK: usize = 65536;
-
-/// The memory of a session, taken before anything else is done.
-#[derive(Drop)]
-struct Room {
-    held: Held,
-    block: Vec<u8>,
-    replies: Vec<u8>,
-}
-
-impl Room {
-    fn new(alloc: Global) -> Result<Room, NoMemory>
-        ensures held { IfOk result (λ room. room.held ≡ Some []) }
-        ensures block { IfOk result (λ room. vec_len room.block ≡ BLOCK) }
-        ensures replies { IfOk result (λ room. room.replies.items ≡ []) }
-        ensures capacity { IfOk result (λ room. REPLIES_ROOM ≤ vec_capacity room.replies) }
-    {
-        let held = Held::new(alloc)?;
-        let block = vec![in alloc; 0; BLOCK]?;
-        let replies = Vec::with_capacity(alloc, REPLIES_ROOM)?;
-        Ok(Room {
-            held,
-            block,
-            replies,
-        })
-    }
-}
-
-/// Makes an empty store's log, and opens its header.
-fn make_store<L: Disk>(log: &mut L) -> Result<(), DiskError>
-    ensures made { IsTrue L.tells → OnOk result (L.content log.new ≡ front (codes "first") 0 ++ 0 ∷ []) }
-    ensures stable { IsTrue L.tells → OnOk result (Only (L.content log.new) (L.may_leave log.new)) }
-    ensures cause { HasCause (L.faults log.old) (L.faults log.new) result }
-{
-    if let Err(error) = make_log(log, ID, 0) {
-        return Err(error);
-    }
-    open_gate(log)
-}
-
-/// Runs `exec`: only an empty log is made into a store, so far.
-pub(crate) fn exec<P, L: Disk, I: Source, O: Sink>(
-    alloc: Global,
-    pages: P,
-    mut log: L,
-    input: &mut I,
-    out: &mut O,
-) -> Ended<P, L>
-    ensures status { result.status ≡ status_of result.cause }
-    ensures pages { result.pages ≡ pages }
-    ensures run { Runs L.tells L.faults L.content log result.log result.cause result.front (I.count input.old) (I.count input.new) (I.taken input.old) (I.taken input.new) (O.written out.old) (O.written out.new) }
-    ensures words { result.cause ≢ Cause.Usage }
-    ensures built { L.size log ≡ 0 → result.cause ≢ Cause.Unbuilt }
-    ensures unbuilt { L.size log ≢ 0 → (result.cause ≡ Cause.Unbuilt) ⊎ (result.cause ≡ Cause.Device) }
-    ensures cause { HasRunCause result.cause (L.faults log) (L.faults result.log) (I.faults input.old) (I.faults input.new) (O.faults out.old) (O.faults out.new) }
-    ensures done { result.cause ≡ Cause.Done → IsAtEnd (I.left input.new) × (I.count input.new ≤ I.count input.old + 2 ^ 40) }
-    ensures long { result.cause ≡ Cause.Long → I.count input.old + 2 ^ 40 < I.count input.new }
-{
-    match log.len() {
-        Ok(0) => {}
-        Ok(_) => return Ended::by(Cause::Unbuilt, pages, log, 0),
-        Err(DiskFault) => return Ended::by(Cause::Device, pages, log, 0),
-    }
-    let Ok(room) = Room::new(alloc) else {
-        return Ended::by(Cause::Memory, pages, log, 0);
-    };
-    match make_store(&mut log) {
-        Ok(()) => run_session(alloc, pages, log, room, input, out),
-        Err(DiskError::Fault) => Ended::by(Cause::Device, pages, log, 0),
-        Err(DiskError::Memory) => Ended::by(Cause::Memory, pages, log, 0),
-    }
-}
-
-/// Runs one session over a log that was just made and opened.
-fn run_session<P, L: Disk, I: Source, O: Sink>(
+/// Opens the store and runs one session.
+pub(crate) fn exec<P: Disk, L: Disk, I: Source, O: Sink>(
     alloc: Global,
     pages: P,
     log: L,
-    mut room: Room,
     input: &mut I,
     out: &mut O,
 ) -> Ended<P, L>
-    requires made { IsTrue L.tells → L.content log ≡ front (codes "first") 0 ++ 0 ∷ [] }
-    requires stable { IsTrue L.tells → Only (L.content log) (L.may_leave log) }
-    requires held { room.held ≡ Some [] }
-    requires block { vec_len room.block ≡ BLOCK }
-    requires replies { room.replies.items ≡ [] }
-    requires capacity { REPLIES_ROOM ≤ vec_capacity room.replies }
     ensures status { result.status ≡ status_of result.cause }
-    ensures pages { result.pages ≡ pages }
-    ensures run { RanSession L.tells L.faults L.content log result.log result.cause result.front (I.taken input.old) (I.taken input.new) (O.written out.old) (O.written out.new) }
-    ensures other { (result.cause ≢ Cause.Usage) × (result.cause ≢ Cause.Unbuilt) }
-    ensures cause { HasRunCause result.cause (L.faults log) (L.faults result.log) (I.faults input.old) (I.faults input.new) (O.faults out.old) (O.faults out.new) }
+    ensures kind { IsExecCause result.cause }
+    ensures run { RanSession L.tells L.faults L.content L.may_leave L.left_since result.pages log result.log result.cause result.front (I.taken input.old) (I.taken input.new) (O.written out.old) (O.written out.new)
+        ⊎ (RanNone result.cause result.front (I.count input.old) (I.count input.new) (I.taken input.old) (I.taken input.new) × Keeps (O.written out.old) (O.written out.new)
+        × (IsTrue L.tells → IsRead L.content L.may_leave L.left_since log result.log)) }
+    ensures pages { IsTrue P.tells → IsRead P.content P.may_leave P.left_since pages result.pages }
+    // A store that was kept stays so: a stop at the end leaves a prefix of the run's history with each acknowledged transaction.
+    ensures kept { IsTrue P.tells → IsTrue L.tells → (head : Head) (front : List ℕ) (history : History) (least : ℕ) → Founds head front history → history.base_number ≤ least
+        → Kept (P.may_leave pages) (L.may_leave log) front history least → StaysKept (P.may_leave result.pages) (L.may_leave result.log) front history least }
+    ensures undone { IsTrue L.tells → result.cause ≡ Cause.Undone → has_open_header (L.content log) ≡ false }
+    ensures bad { IsTrue L.tells → (place : ℕ) → result.cause ≡ Cause.BadLog place → IsBad (log_bytes (L.content log)) place }
+    ensures cause { HasRunCause result.cause (P.faults pages) (P.faults result.pages) (L.faults log) (L.faults result.log) (I.faults input.old) (I.faults input.new) (O.faults out.old) (O.faults out.new) }
     ensures done { result.cause ≡ Cause.Done → IsAtEnd (I.left input.new) × (I.count input.new ≤ I.count input.old + 2 ^ 40) }
     ensures long { result.cause ≡ Cause.Long → I.count input.old + 2 ^ 40 < I.count input.new }
 {
-    let mut yard = Yard::new(alloc, Log::begin(alloc, log));
-    let block = room.block.as_mut_slice();
-    let stop = serve_input(
-        alloc,
-        &mut yard,
-        &mut room.held,
-        block,
-        &mut room.replies,
-        input,
-        out,
-    );
-    let Yard {
-        state: _,
-        log,
-        front,
-        halt,
-    } = yard;
-    Ended::by(cause_of(stop, halt), pages, log.into_device(), front)
+    let Ok(room) = Room::new(alloc) else {
+        return Ended::by(Cause::Memory, pages, log, 0);
+    };
+    match open_store(alloc, pages, log) {
+        Ok(yard) => run_session(alloc, yard, room, input, out),
+        Err((fault, pages, log)) => Ended::by(open_cause(fault), pages, log, 0),
+    }
 }

@@ -1,7 +1,7 @@
 //! The whole input of a session served, block by block.
 
 ghost use Rattle.std.specs.Prelude.{◌≡◌, ◌≤◌, ◌<◌, ◌+◌, ◌^◌, ℕ, List, [], Option, Some, vec_len, vec_capacity, length, take};
-ghost use Rattle.ct_yard.specs.Yards.{IsSound};
+ghost use Rattle.ct_yard.specs.Yards.{IsSettled};
 ghost use Rattle.std.specs.Prelude.{OnOk};
 ghost use Rattle.std.specs.Io.KnownBytes.{IsAtEnd};
 ghost use Rattle.ct_link.specs.Sink.{HasSinkCause};
@@ -45,22 +45,21 @@ impl From<SinkError> for Stop {
 }
 
 /// Answers the lines that end in a piece of the input, and puts the replies.
-fn serve_piece<L: Disk, O: Sink>(
+fn serve_piece<P: Disk, L: Disk, O: Sink>(
     alloc: Global,
-    yard: &mut Yard<L>,
+    yard: &mut Yard<P, L>,
     held: &mut Held,
     piece: &[u8],
     replies: &mut Vec<u8>,
     out: &mut O,
 ) -> Result<(), SinkError>
     requires room { REPLIES_ROOM ≤ vec_capacity replies.old }
-    requires numbers { yard.old.front + length piece.now < 2 ^ 46 }
-    requires sound { IsSound L.tells L.content L.may_leave yard.old }
-    ensures serves { ServesLines L.tells L.faults L.content result yard.old (lines_from held.old piece.now) yard.new (O.written out.old) (O.written out.new) replies.old.items replies.new.items }
+    requires settled { IsSettled yard.old }
+    ensures serves { ServesLines L.tells L.faults L.content L.may_leave L.left_since result yard.old (lines_from held.old piece.now) yard.new (O.written out.old) (O.written out.new) replies.old.items replies.new.items }
     ensures none { OnOk result (replies.new.items ≡ []) }
     ensures held { OnOk result (held.new ≡ held_after held.old piece.now) }
-    ensures sound { IsSound L.tells L.content L.may_leave yard.new }
-    ensures some { yard.new.front ≤ yard.old.front + length piece.now }
+    ensures settled { IsSettled yard.new }
+    ensures pages { yard.new.pages ≡ yard.old.pages }
     ensures capacity { vec_capacity replies.old ≤ vec_capacity replies.new }
     ensures later { O.faults out.old ≤ O.faults out.new }
     ensures cause { HasSinkCause result (O.faults out.old) (O.faults out.new) }
@@ -72,19 +71,19 @@ fn serve_piece<L: Disk, O: Sink>(
 }
 
 /// Answers the unfinished last line, where there is one, and puts the replies.
-fn serve_end<L: Disk, O: Sink>(
+fn serve_end<P: Disk, L: Disk, O: Sink>(
     alloc: Global,
-    yard: &mut Yard<L>,
+    yard: &mut Yard<P, L>,
     held: &Held,
     replies: &mut Vec<u8>,
     out: &mut O,
 ) -> Result<(), SinkError>
     requires room { REPLIES_ROOM ≤ vec_capacity replies.old }
-    requires numbers { yard.old.front < 2 ^ 46 }
-    requires sound { IsSound L.tells L.content L.may_leave yard.old }
-    ensures serves { ServesLines L.tells L.faults L.content result yard.old (last_line held.now) yard.new (O.written out.old) (O.written out.new) replies.old.items replies.new.items }
+    requires settled { IsSettled yard.old }
+    ensures serves { ServesLines L.tells L.faults L.content L.may_leave L.left_since result yard.old (last_line held.now) yard.new (O.written out.old) (O.written out.new) replies.old.items replies.new.items }
     ensures none { OnOk result (replies.new.items ≡ []) }
-    ensures sound { IsSound L.tells L.content L.may_leave yard.new }
+    ensures settled { IsSettled yard.new }
+    ensures pages { yard.new.pages ≡ yard.old.pages }
     ensures later { O.faults out.old ≤ O.faults out.new }
     ensures cause { HasSinkCause result (O.faults out.old) (O.faults out.new) }
 {
@@ -107,9 +106,9 @@ fn first_bytes(block: &[u8], n: usize) -> &[u8]
 
 /// Takes the whole input in blocks and answers its lines. What is gathered is put before the next
 /// block is asked for.
-pub(crate) fn serve_input<L: Disk, I: Source, O: Sink>(
+pub(crate) fn serve_input<P: Disk, L: Disk, I: Source, O: Sink>(
     alloc: Global,
-    yard: &mut Yard<L>,
+    yard: &mut Yard<P, L>,
     held: &mut Held,
     block: &mut [u8],
     replies: &mut Vec<u8>,
@@ -121,10 +120,10 @@ pub(crate) fn serve_input<L: Disk, I: Source, O: Sink>(
     requires beginning { held.old ≡ Some [] }
     requires none { replies.old.items ≡ [] }
     requires room { REPLIES_ROOM ≤ vec_capacity replies.old }
-    requires numbers { yard.old.front ≡ 0 }
-    requires sound { IsSound L.tells L.content L.may_leave yard.old }
-    ensures serves { (bytes : List ℕ) × ServesInput L.tells L.faults L.content result bytes yard.old yard.new (I.taken input.old) (I.taken input.new) (O.written out.old) (O.written out.new) }
-    ensures sound { IsSound L.tells L.content L.may_leave yard.new }
+    requires settled { IsSettled yard.old }
+    ensures serves { (bytes : List ℕ) × ServesInput L.tells L.faults L.content L.may_leave L.left_since result bytes yard.old yard.new (I.taken input.old) (I.taken input.new) (O.written out.old) (O.written out.new) }
+    ensures settled { IsSettled yard.new }
+    ensures pages { yard.new.pages ≡ yard.old.pages }
     ensures end { result ≡ Stop.End → IsAtEnd (I.left input.new) }
     ensures whole { result ≡ Stop.End → I.count input.new ≤ I.count input.old + 2 ^ 40 }
     ensures long { result ≡ Stop.Long → I.count input.old + 2 ^ 40 < I.count input.new }

@@ -3,10 +3,13 @@
 #![tactic(auto)]
 
 mod block;
+mod check;
+mod create;
 mod ended;
 mod exec;
 mod input;
 mod run;
+mod session;
 #[cfg(test)]
 mod tests;
 

@@ -1,12 +1,22 @@
 //! The top call: what the words ask for, done over two devices, an input and an output.
 
-ghost use Rattle.std.specs.Prelude.{◌≡◌, ◌≢◌, ◌⊎◌, ◌<◌, ◌≤◌, ◌+◌, ◌^◌, Some, None, map, string_bytes};
-ghost use Rattle.std.specs.Io.KnownBytes.{IsAtEnd};
-ghost use Rattle.ct_words.specs.Commands.{Asks};
-ghost use Rattle.ct_words.specs.declared.commands.Command.TheVariants.{Exec, Unbuilt as Other};
+ghost use Rattle.std.specs.Prelude.{◌≡◌, ◌≢◌, ◌⊎◌, ◌<◌, ◌≤◌, ◌+◌, ◌^◌, ◌∷◌, [], ℕ, List, Some, None, true, false, map, codes, IsTrue, string_bytes};
+ghost use Rattle.std.specs.Io.KnownBytes.{IsAtEnd, Keeps};
+ghost use Rattle.ct_disk.specs.Disk.{AllImages};
+ghost use Rattle.ct_definitions.specs.Histories.{History};
+ghost use Rattle.ct_log.specs.Heads.{has_open_header};
+ghost use Rattle.ct_log.specs.declared.head.Head.{Head};
+ghost use Rattle.ct_yard.specs.Kept.{Founds, Kept};
+ghost use Rattle.ct_log.specs.Reading.{IsRead, log_bytes};
+ghost use Rattle.ct_recover.specs.Creating.{IsClosedOrWhole};
+ghost use Rattle.ct_recover.specs.Opening.{IsBad};
+ghost use Rattle.ct_words.specs.Commands.{Asks, AskCreate, is_id};
+ghost use Rattle.ct_words.specs.declared.commands.Command.TheVariants.{Unbuilt as Other};
 ghost use Rattle.ct_tool.specs.Ends.{status_of};
-ghost use Rattle.ct_tool.specs.Runs.{Runs, HasRunCause};
+ghost use Rattle.ct_tool.specs.Runs.{RanSession, RanNone, StaysKept, Checked, IsMade, MadeBy, PutsOrKeeps, IsCreateCause, IsOpenCause, IsWordCause, HasRunCause};
 
+use crate::check::check;
+use crate::create::create;
 use crate::ended::{Cause, Ended};
 use crate::exec::exec;
 use ct_disk::Disk;
@@ -15,7 +25,7 @@ use ct_words::{Command, command_of};
 use std::alloc::Global;
 
 /// Does what the words ask for over a page device and a log device, an input and an output.
-/// `exec` runs one session over the input; the page device is not touched yet.
+/// `create` makes a store, `exec` opens it and runs one session over the input, `check` tells what it holds.
 pub fn run_tool<P: Disk, L: Disk, I: Source, O: Sink>(
     alloc: Global,
     words: &[String],
@@ -25,24 +35,62 @@ pub fn run_tool<P: Disk, L: Disk, I: Source, O: Sink>(
     out: &mut O,
 ) -> Ended<P, L>
     ensures status { result.status ≡ status_of result.cause }
-    ensures pages { result.pages ≡ pages }
 
-    // Either one session ran: its transcript is what was written, and the log holds its history. Or none did.
-    ensures run { Runs L.tells L.faults L.content log result.log result.cause result.front (I.count input.old) (I.count input.new) (I.taken input.old) (I.taken input.new) (O.written out.old) (O.written out.new) }
+    // `exec`: one session ran, its transcript is what was written, and each acknowledged transaction is kept at each moment. Or none did.
+    ensures exec { map string_bytes words.now ≡ codes "exec" ∷ [] →
+        RanSession L.tells L.faults L.content L.may_leave L.left_since result.pages log result.log result.cause result.front (I.taken input.old) (I.taken input.new) (O.written out.old) (O.written out.new)
+        ⊎ (RanNone result.cause result.front (I.count input.old) (I.count input.new) (I.taken input.old) (I.taken input.new) × Keeps (O.written out.old) (O.written out.new)
+        × (IsTrue L.tells → IsRead L.content L.may_leave L.left_since log result.log)) }
+    // A store that was kept at the start is kept at the end, by whatever was acknowledged.
+    ensures exec_kept { map string_bytes words.now ≡ codes "exec" ∷ [] → IsTrue P.tells → IsTrue L.tells → (head : Head) (front : List ℕ) (history : History) (least : ℕ) → Founds head front history → history.base_number ≤ least
+        → Kept (P.may_leave pages) (L.may_leave log) front history least → StaysKept (P.may_leave result.pages) (L.may_leave result.log) front history least }
+    ensures exec_pages { map string_bytes words.now ≡ codes "exec" ∷ [] → IsTrue P.tells → IsRead P.content P.may_leave P.left_since pages result.pages }
+
+    // `create`: an empty store was made, and then each image that a crash may leave is this store.
+    ensures create { (verb id : List ℕ) → map string_bytes words.now ≡ verb ∷ id ∷ [] → AskCreate (map string_bytes words.now) → MadeBy result.cause →
+        IsMade P.tells P.content P.may_leave L.tells L.content L.may_leave id result.pages result.log }
+    ensures create_ends { AskCreate (map string_bytes words.now) → IsCreateCause result.cause }
+    ensures create_left { (verb id : List ℕ) → map string_bytes words.now ≡ verb ∷ id ∷ [] → AskCreate (map string_bytes words.now) → IsTrue L.tells → L.calls log + 8 < L.calls result.log
+        → AllImages (IsClosedOrWhole id) (L.may_leave result.log) }
+    ensures create_kept { AskCreate (map string_bytes words.now) → IsTrue L.tells → has_open_header (L.content log) ≡ true →
+        (result.cause ≢ Cause.Done) × (result.cause ≢ Cause.Sink) × (result.pages ≡ pages) × IsRead L.content L.may_leave L.left_since log result.log }
+    ensures create_put { AskCreate (map string_bytes words.now) → (result.front ≡ 0) × PutsOrKeeps result.cause (O.written out.old) (O.written out.new) (codes "OK 0\n") }
+
+    // `check`: the store was opened and counted, and nothing changed.
+    ensures check { map string_bytes words.now ≡ codes "check" ∷ [] →
+        Checked L.tells L.faults L.content L.may_leave result.pages log result.log result.cause result.front (O.written out.old) (O.written out.new)
+        ⊎ (IsOpenCause result.cause × (result.front ≡ 0) × Keeps (O.written out.old) (O.written out.new)) }
+    ensures check_kept { map string_bytes words.now ≡ codes "check" ∷ [] →
+        (IsTrue P.tells → IsRead P.content P.may_leave P.left_since pages result.pages) × (IsTrue L.tells → IsRead L.content L.may_leave L.left_since log result.log) }
+
+    // Other words change nothing.
+    ensures nothing { IsWordCause result.cause → (result.pages ≡ pages) × (result.log ≡ log) × (result.front ≡ 0) × Keeps (I.taken input.old) (I.taken input.new) × Keeps (O.written out.old) (O.written out.new) }
 
     // Why it ended so.
     ensures usage { result.cause ≡ Cause.Usage → Asks (map string_bytes words.now) None }
     ensures only_usage { Asks (map string_bytes words.now) None → result.cause ≡ Cause.Usage }
-    ensures unbuilt { result.cause ≡ Cause.Unbuilt → Asks (map string_bytes words.now) (Some Other) ⊎ (Asks (map string_bytes words.now) (Some Exec) × (L.size log ≢ 0)) }
-    ensures unbuilt_words { Asks (map string_bytes words.now) (Some Other) → result.cause ≡ Cause.Unbuilt }
-    ensures unbuilt_log { Asks (map string_bytes words.now) (Some Exec) → L.size log ≢ 0 → (result.cause ≡ Cause.Unbuilt) ⊎ (result.cause ≡ Cause.Device) }
-    ensures cause { HasRunCause result.cause (L.faults log) (L.faults result.log) (I.faults input.old) (I.faults input.new) (O.faults out.old) (O.faults out.new) }
-    ensures done { result.cause ≡ Cause.Done → IsAtEnd (I.left input.new) × (I.count input.new ≤ I.count input.old + 2 ^ 40) }
+    ensures unbuilt { result.cause ≡ Cause.Unbuilt → Asks (map string_bytes words.now) (Some Other) }
+    ensures only_unbuilt { Asks (map string_bytes words.now) (Some Other) → result.cause ≡ Cause.Unbuilt }
+    ensures undone { IsTrue L.tells → result.cause ≡ Cause.Undone → has_open_header (L.content log) ≡ false }
+    ensures not_empty { IsTrue L.tells → result.cause ≡ Cause.NotEmpty → has_open_header (L.content log) ≡ true }
+    ensures bad_log { IsTrue L.tells → (place : ℕ) → result.cause ≡ Cause.BadLog place → IsBad (log_bytes (L.content log)) place }
+    ensures cause { HasRunCause result.cause (P.faults pages) (P.faults result.pages) (L.faults log) (L.faults result.log) (I.faults input.old) (I.faults input.new) (O.faults out.old) (O.faults out.new) }
+    ensures done { map string_bytes words.now ≡ codes "exec" ∷ [] → result.cause ≡ Cause.Done → IsAtEnd (I.left input.new) × (I.count input.new ≤ I.count input.old + 2 ^ 40) }
     ensures long { result.cause ≡ Cause.Long → I.count input.old + 2 ^ 40 < I.count input.new }
 {
     match command_of(words) {
+        Some(Command::Create) => create(pages, log, id_of(words), out),
         Some(Command::Exec) => exec(alloc, pages, log, input, out),
+        Some(Command::Check) => check(alloc, pages, log, out),
         Some(Command::Unbuilt) => Ended::by(Cause::Unbuilt, pages, log, 0),
         None => Ended::by(Cause::Usage, pages, log, 0),
     }
+}
+
+/// The id that `create` is given, which is its second word.
+fn id_of(words: &[String]) -> &[u8]
+    requires { AskCreate (map string_bytes words.now) }
+    ensures { (verb : List ℕ) × (map string_bytes words.now ≡ verb ∷ result.now ∷ []) × IsTrue (is_id result.now) }
+{
+    words[1].as_bytes()
 }

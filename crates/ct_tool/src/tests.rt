@@ -1,4 +1,5 @@
-//! Runs over devices in memory: what they write, how they end, and each outside call failing in turn.
+//! Runs over devices in memory: what they write, how they end, each outside call failing in turn, and what is
+//! opened again after a stop.
 
 ghost use Rattle.std.specs.Prelude.{◌<◌};
 
@@ -15,46 +16,116 @@ const LINES: &[u8; 78] =
 
 const REPLIES: &[u8; 20] = b"OK 1\nOK 1\nOK 1 0001\n";
 
-// runs the words over a log, an input and an output
+// the place of the first chunk
+const FIRST_CHUNK: usize = 12288;
+
+// the devices of a store
+#[derive(Drop)]
+struct Store {
+    pages: MemDisk,
+    log: MemDisk,
+}
+
+// runs the words over a store, an input and an output
 fn run(
     alloc: Global,
     line: &str,
-    log: MemDisk,
+    store: Store,
     input: &mut MemSource,
     out: &mut MemSink,
-) -> Result<(Cause, MemDisk), NoMemory> {
+) -> Result<(Cause, Store), NoMemory> {
+    let (cause, _front, store) = run_to_front(alloc, line, store, input, out)?;
+    Ok((cause, store))
+}
+
+// the same, with the number of the last transaction
+fn run_to_front(
+    alloc: Global,
+    line: &str,
+    store: Store,
+    input: &mut MemSource,
+    out: &mut MemSink,
+) -> Result<(Cause, u64, Store), NoMemory> {
     let mut words = Vec::new(alloc);
     for word in line.split(' ') {
         words.push(String::from_str(alloc, word)?)?;
     }
-    let pages = MemDisk::new(alloc);
+    let Store { pages, log } = store;
     let Ended {
         status: _,
         cause,
-        pages: _pages,
+        pages,
         log,
-        front: _,
+        front,
     } = run_tool(alloc, &words, pages, log, input, out);
-    Ok((cause, log))
+    Ok((cause, front, Store { pages, log }))
 }
 
-// runs a session over an empty log
-fn exec(alloc: Global, input: &mut MemSource, out: &mut MemSink) -> Result<Cause, NoMemory> {
-    let (cause, _log) = run(alloc, "exec", MemDisk::new(alloc), input, out)?;
-    Ok(cause)
+// devices that hold nothing
+fn empty(alloc: Global) -> Store {
+    Store {
+        pages: MemDisk::new(alloc),
+        log: MemDisk::new(alloc),
+    }
 }
 
-// the lines of a text, with what stands behind the last
-fn line_count(bytes: &[u8]) -> usize {
-    bytes.split(|byte| *byte == b'\n').count()
+// runs the words over a store and these bytes of input
+fn run_on(
+    alloc: Global,
+    line: &str,
+    store: Store,
+    input: &[u8],
+) -> Result<(Cause, Store, MemSink), NoMemory> {
+    let mut input = MemSource::new(alloc, input)?;
+    let mut out = MemSink::new(alloc);
+    let (cause, store) = run(alloc, line, store, &mut input, &mut out)?;
+    Ok((cause, store, out))
+}
+
+// the same devices, of which no call was made yet, with another byte at a place of the log
+fn again(alloc: Global, store: &Store, at: usize, byte: u8) -> Result<Store, NoMemory> {
+    let mut log = Vec::from_slice(alloc, store.log.bytes())?;
+    if at < log.len() {
+        log[at] = byte;
+    }
+    Ok(Store {
+        pages: MemDisk::of(alloc, store.pages.bytes())?,
+        log: MemDisk::of(alloc, &log)?,
+    })
+}
+
+// a store of which these lines were answered
+fn made(alloc: Global, lines: &[u8]) -> Result<Store, NoMemory> {
+    let (_cause, store, _out) = run_on(alloc, "create shop", empty(alloc), b"")?;
+    let (_cause, store, _out) = run_on(alloc, "exec", store, lines)?;
+    again(alloc, &store, 0, b'C')
 }
 
 #[test]
-fn lines_are_answered(rt: HostRuntime) -> Result<(), Fail> {
-    let mut input = MemSource::new(rt.alloc(), LINES)?;
+fn a_store_is_made_opened_and_checked(rt: HostRuntime) -> Result<(), Fail> {
+    let (cause, store, out) = run_on(rt.alloc(), "create shop", empty(rt.alloc()), b"")?;
+    assert_eq!(rt; cause, Cause::Done);
+    assert_eq!(rt; out.bytes(), b"OK 0\n".as_slice());
+    assert_eq!(rt; store.pages.bytes().len(), 4096);
+    let mut input = MemSource::new(rt.alloc(), b"")?;
     let mut out = MemSink::new(rt.alloc());
-    assert_eq!(rt; exec(rt.alloc(), &mut input, &mut out)?, Cause::Done);
+    let (cause, front, store) = run_to_front(rt.alloc(), "exec", store, &mut input, &mut out)?;
+    assert_eq!(rt; cause, Cause::Done);
+    assert_eq!(rt; front, 0);
+    assert_eq!(rt; out.bytes(), b"".as_slice());
+    let (cause, store, out) = run_on(rt.alloc(), "exec", store, LINES)?;
+    assert_eq!(rt; cause, Cause::Done);
     assert_eq!(rt; out.bytes(), REPLIES.as_slice());
+    assert_eq!(rt; store.log.bytes().len(), 12389);
+    let (cause, store, out) = run_on(rt.alloc(), "check", store, b"")?;
+    assert_eq!(rt; cause, Cause::Done);
+    assert_eq!(rt; out.bytes(), b"OK 2 1 1\n".as_slice());
+    let (cause, _store, out) = run_on(rt.alloc(), "create shop", store, b"")?;
+    assert_eq!(rt; cause, Cause::NotEmpty);
+    assert_eq!(rt; out.bytes(), b"".as_slice());
+    let (cause, _store, out) = run_on(rt.alloc(), "exec", empty(rt.alloc()), LINES)?;
+    assert_eq!(rt; cause, Cause::Undone);
+    assert_eq!(rt; out.bytes(), b"".as_slice());
     Ok(())
 }
 
@@ -66,7 +137,7 @@ fn exec_in_pieces(alloc: Global, most: usize) -> Result<(Cause, MemSink), NoMemo
     let mut out = MemSink::new(alloc);
     input.in_pieces(most);
     out.in_pieces(1);
-    let cause = exec(alloc, &mut input, &mut out)?;
+    let (cause, _store) = run(alloc, "exec", made(alloc, b"")?, &mut input, &mut out)?;
     Ok((cause, out))
 }
 
@@ -88,32 +159,100 @@ fn pieces_make_no_difference(rt: HostRuntime) -> Result<(), Fail> {
 fn an_unfinished_and_a_long_line_are_answered(rt: HostRuntime) -> Result<(), Fail> {
     let mut text = vec![in rt.alloc(); b'x'; 16385]?;
     text.extend_from_slice(b"\nGET part id 0001")?;
-    let mut input = MemSource::new(rt.alloc(), &text)?;
-    let mut out = MemSink::new(rt.alloc());
-    assert_eq!(rt; exec(rt.alloc(), &mut input, &mut out)?, Cause::Done);
+    let (cause, _store, out) = run_on(rt.alloc(), "exec", made(rt.alloc(), b"")?, &text)?;
+    assert_eq!(rt; cause, Cause::Done);
     assert_eq!(rt; out.bytes(), b"ERR UNBUILT\nERR UNBUILT\n".as_slice());
     Ok(())
 }
 
-// what a run puts whose log fails at a call: ten calls make and open the log, four write each group
-fn replies_at(call: u64) -> &'static str {
+// what a run puts whose log fails from a call on: five calls open an empty log, four write each group
+fn replies_from(call: u64) -> &'static str {
     match call {
-        1..=10 => "",
-        11..=14 => "ERR HALT_ERR WRITE\nERR HALT_ERR WRITE\nERR HALT_ERR WRITE\n",
+        1..=5 => "",
+        6..=9 => "ERR HALT_ERR WRITE\nERR HALT_ERR WRITE\nERR HALT_ERR WRITE\n",
         _ => "OK 1\nERR HALT_ERR WRITE\nERR HALT_ERR WRITE\n",
     }
 }
 
 #[test]
 fn each_call_of_the_log_fails_in_turn(rt: HostRuntime) -> Result<(), Fail> {
-    for call in 1..=18 {
-        let mut log = MemDisk::new(rt.alloc());
-        log.fail_at(call)?;
-        let mut input = MemSource::new(rt.alloc(), LINES)?;
-        let mut out = MemSink::new(rt.alloc());
-        let (cause, _log) = run(rt.alloc(), "exec", log, &mut input, &mut out)?;
+    for call in 1..=13 {
+        let mut store = made(rt.alloc(), b"")?;
+        store.log.fail_from(call);
+        let (cause, _store, out) = run_on(rt.alloc(), "exec", store, LINES)?;
         assert_eq!(rt; cause, Cause::Device, "{call}");
-        assert_eq!(rt; out.bytes(), replies_at(call).as_bytes(), "{call}");
+        assert_eq!(rt; out.bytes(), replies_from(call).as_bytes(), "{call}");
+    }
+    Ok(())
+}
+
+// what `check` puts of a store
+fn checked(alloc: Global, store: Store) -> Result<(Cause, MemSink), NoMemory> {
+    let (cause, _store, out) = run_on(alloc, "check", store, b"")?;
+    Ok((cause, out))
+}
+
+// what a crash may leave of a store
+fn crashed(store: Store, pick: u64) -> Result<Store, NoMemory> {
+    Ok(Store {
+        pages: store.pages.crash(pick)?,
+        log: store.log.crash(pick)?,
+    })
+}
+
+// adds a record to a store of one file, with a log that fails from a call on, and checks what a crash leaves
+fn stopped(alloc: Global, call: u64, pick: u64) -> Result<(MemSink, MemSink), NoMemory> {
+    let mut store = made(alloc, &LINES[..47])?;
+    store.log.fail_from(call);
+    let (_cause, store, out) = run_on(alloc, "exec", store, b"ADD part 0001\n")?;
+    let (_cause, told) = checked(alloc, crashed(store, pick)?)?;
+    Ok((out, told))
+}
+
+// eight calls open the log of one transaction; the ninth writes the record's chunk, the tenth syncs it, and the next two do so with its gate
+#[test]
+fn a_record_stopped_anywhere_is_there_or_not(rt: HostRuntime) -> Result<(), Fail> {
+    for call in 9..=13 {
+        for pick in 0..10 {
+            let (out, told) = stopped(rt.alloc(), call, pick)?;
+            let without = told.bytes() == b"OK 1 1 0\n".as_slice();
+            let with = told.bytes() == b"OK 2 1 1\n".as_slice();
+            let answered = out.bytes() == b"OK 1\n".as_slice();
+            assert_eq!(rt; answered, call == 13, "{call} {pick}");
+            assert!(rt;
+                if call <= 11 {
+                    without
+                } else {
+                    with || !answered
+                },
+                "{call} {pick}"
+            );
+            assert!(rt; without || with, "{call} {pick}");
+        }
+    }
+    Ok(())
+}
+
+#[test]
+fn a_damaged_log_is_refused_or_ends_early(rt: HostRuntime) -> Result<(), Fail> {
+    let store = made(rt.alloc(), LINES)?;
+    let (cause, told) = checked(rt.alloc(), again(rt.alloc(), &store, FIRST_CHUNK, 2)?)?;
+    assert_eq!(rt;
+        (cause, told.bytes()),
+        (Cause::Done, b"OK 0 0 0\n".as_slice())
+    );
+    let rows = [
+        (0, Cause::BadLog(0)),
+        (36, Cause::Undone),
+        (4128, Cause::BadLog(4096)),
+        (FIRST_CHUNK + 4, Cause::BadLog(12288)),
+        (FIRST_CHUNK + 5, Cause::BadLog(12293)),
+        (FIRST_CHUNK + 10, Cause::BadLog(12293)),
+    ];
+    for (at, wanted) in rows {
+        let damaged = again(rt.alloc(), &store, at, if at == 4128 { 1 } else { 255 })?;
+        let (cause, told) = checked(rt.alloc(), damaged)?;
+        assert_eq!(rt; (cause, told.bytes()), (wanted, b"".as_slice()), "{at}");
     }
     Ok(())
 }
@@ -125,17 +264,12 @@ fn each_call_of_the_input_fails_in_turn(rt: HostRuntime) -> Result<(), Fail> {
         input.in_pieces(1);
         input.fail_at(taken as u64 + 1)?;
         let mut out = MemSink::new(rt.alloc());
-        assert_eq!(rt;
-            exec(rt.alloc(), &mut input, &mut out)?,
-            Cause::Source,
-            "{taken}"
-        );
+        let store = made(rt.alloc(), b"")?;
+        let (cause, _store) = run(rt.alloc(), "exec", store, &mut input, &mut out)?;
+        assert_eq!(rt; cause, Cause::Source, "{taken}");
         assert!(rt; REPLIES.starts_with(out.bytes()), "{taken}");
-        assert_eq!(rt;
-            line_count(out.bytes()),
-            line_count(&LINES[..taken]),
-            "{taken}"
-        );
+        let ends = |bytes: &[u8]| bytes.split(|byte| *byte == b'\n').count();
+        assert_eq!(rt; ends(out.bytes()), ends(&LINES[..taken]), "{taken}");
     }
     Ok(())
 }
@@ -147,11 +281,9 @@ fn each_call_of_the_output_fails_in_turn(rt: HostRuntime) -> Result<(), Fail> {
         let mut out = MemSink::new(rt.alloc());
         out.in_pieces(1);
         out.fail_at(put as u64 + 1)?;
-        assert_eq!(rt;
-            exec(rt.alloc(), &mut input, &mut out)?,
-            Cause::Sink,
-            "{put}"
-        );
+        let store = made(rt.alloc(), b"")?;
+        let (cause, _store) = run(rt.alloc(), "exec", store, &mut input, &mut out)?;
+        assert_eq!(rt; cause, Cause::Sink, "{put}");
         assert_eq!(rt; out.bytes(), &REPLIES[..put], "{put}");
     }
     Ok(())
@@ -163,29 +295,14 @@ fn other_words_do_nothing(rt: HostRuntime) -> Result<(), Fail> {
         ("", Cause::Usage),
         ("Exec", Cause::Usage),
         ("exec now", Cause::Usage),
-        ("check", Cause::Unbuilt),
+        ("create", Cause::Usage),
         ("ctrdmp dump", Cause::Unbuilt),
     ];
     for (words, wanted) in rows {
-        let mut input = MemSource::new(rt.alloc(), LINES)?;
-        let mut out = MemSink::new(rt.alloc());
-        let log = MemDisk::new(rt.alloc());
-        let (cause, log) = run(rt.alloc(), words, log, &mut input, &mut out)?;
+        let (cause, store, out) = run_on(rt.alloc(), words, empty(rt.alloc()), LINES)?;
         assert_eq!(rt; cause, wanted, "{words}");
-        assert_eq!(rt; log.bytes(), b"".as_slice(), "{words}");
+        assert_eq!(rt; store.log.bytes(), b"".as_slice(), "{words}");
         assert_eq!(rt; out.bytes(), b"".as_slice(), "{words}");
     }
-    Ok(())
-}
-
-#[test]
-fn a_kept_log_is_left_as_it_was(rt: HostRuntime) -> Result<(), Fail> {
-    let log = MemDisk::of(rt.alloc(), b"kept")?;
-    let mut input = MemSource::new(rt.alloc(), LINES)?;
-    let mut out = MemSink::new(rt.alloc());
-    let (cause, log) = run(rt.alloc(), "exec", log, &mut input, &mut out)?;
-    assert_eq!(rt; cause, Cause::Unbuilt);
-    assert_eq!(rt; log.bytes(), b"kept".as_slice());
-    assert_eq!(rt; out.bytes(), b"".as_slice());
     Ok(())
 }

@@ -3,7 +3,7 @@ use Rattle.std.specs.Prelude.{◌≡◌, ◌≢◌, ℕ, ◌-◌, ◌^◌, ◌�
 use Rattle.std.specs.Fmt.{decimal}
 use Rattle.ct_definitions.specs.Validity.{is_name}
 use Rattle.ct_words.specs.declared.commands.Command.{Command}
-use Rattle.ct_words.specs.declared.commands.Command.TheVariants.{Exec, Unbuilt}
+use Rattle.ct_words.specs.declared.commands.Command.TheVariants.{Create, Exec, Check, Unbuilt}
 
 -- the word begins with a hyphen
 abbrev pub is_option : List ℕ → Bool
@@ -26,13 +26,13 @@ IsNumberWithin least most word = (number : ℕ) × (least ≤ number) × (number
 abbrev pub IsNumber : List ℕ → Type 0
 IsNumber word = IsNumberWithin 0 (2 ^ 64 - 1) word
 
--- `play` and `check`
-abbrev pub IsAlone : List ℕ → Type 0
-IsAlone verb = (verb ≡ codes "play") ⊎ (verb ≡ codes "check")
+-- `create id`
+abbrev pub IsCreate : List ℕ → List ℕ → Type 0
+IsCreate verb word = (verb ≡ codes "create") × IsTrue (is_id word)
 
--- `create id`, `ctrdmp name` and `ctfdmp name`
+-- `ctrdmp name` and `ctfdmp name`
 abbrev pub TakesOne : List ℕ → List ℕ → Type 0
-TakesOne verb word = ((verb ≡ codes "create") × IsTrue (is_id word)) ⊎ (((verb ≡ codes "ctrdmp") ⊎ (verb ≡ codes "ctfdmp")) × IsTrue (is_shelf_name word))
+TakesOne verb word = ((verb ≡ codes "ctrdmp") ⊎ (verb ≡ codes "ctfdmp")) × IsTrue (is_shelf_name word)
 
 -- `ctfdmp name upto`
 abbrev pub TakesTwo : List ℕ → List ℕ → List ℕ → Type 0
@@ -42,17 +42,26 @@ TakesTwo verb name upto = (verb ≡ codes "ctfdmp") × IsTrue (is_shelf_name nam
 abbrev pub TakesThree : List ℕ → List ℕ → List ℕ → List ℕ → Type 0
 TakesThree verb number sessions lines = (verb ≡ codes "work") × IsNumber number × IsNumberWithin 1 64 sessions × IsNumberWithin 0 1_000_000 lines
 
--- the words are a command beside `exec`
-abbrev pub IsOther : List (List ℕ) → Type 0
-IsOther [] = ⊥
-IsOther (verb ∷ []) = IsAlone verb
-IsOther (verb ∷ word ∷ []) = TakesOne verb word
-IsOther (verb ∷ name ∷ upto ∷ []) = TakesTwo verb name upto
-IsOther (verb ∷ number ∷ sessions ∷ lines ∷ []) = TakesThree verb number sessions lines
-IsOther (verb ∷ number ∷ sessions ∷ lines ∷ more ∷ words) = ⊥
+-- the words make a store
+abbrev pub AskCreate : List (List ℕ) → Type 0
+AskCreate [] = ⊥
+AskCreate (verb ∷ []) = ⊥
+AskCreate (verb ∷ word ∷ []) = IsCreate verb word
+AskCreate (verb ∷ word ∷ more ∷ words) = ⊥
 
--- the words ask for `exec`, for another command, or for none
+-- the words are a command that is not built yet
+abbrev pub AskOther : List (List ℕ) → Type 0
+AskOther [] = ⊥
+AskOther (verb ∷ []) = verb ≡ codes "play"
+AskOther (verb ∷ word ∷ []) = TakesOne verb word
+AskOther (verb ∷ name ∷ upto ∷ []) = TakesTwo verb name upto
+AskOther (verb ∷ number ∷ sessions ∷ lines ∷ []) = TakesThree verb number sessions lines
+AskOther (verb ∷ number ∷ sessions ∷ lines ∷ more ∷ words) = ⊥
+
+-- the words ask for this command, or for none
 abbrev pub Asks : List (List ℕ) → Option Command → Type 0
+Asks words (Some Create) = AskCreate words
 Asks words (Some Exec) = words ≡ codes "exec" ∷ []
-Asks words (Some Unbuilt) = IsOther words
-Asks words None = (words ≢ codes "exec" ∷ []) × ¬ IsOther words
+Asks words (Some Check) = words ≡ codes "check" ∷ []
+Asks words (Some Unbuilt) = AskOther words
+Asks words None = ¬ AskCreate words × (words ≢ codes "exec" ∷ []) × (words ≢ codes "check" ∷ []) × ¬ AskOther words

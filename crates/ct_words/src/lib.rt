@@ -1,4 +1,4 @@
-//! The words of the command line: whether they ask for one session, for another command, or for none.
+//! The words of the command line: which command they ask for, if they ask for one.
 //! The table of the commands is `specs/Commands.antt`.
 #![tactic(auto)]
 

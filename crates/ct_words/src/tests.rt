@@ -14,16 +14,19 @@ fn asked(rt: &HostRuntime, line: &str) -> Result<Option<Command>, Fail> {
 
 #[test]
 fn each_command_is_known(rt: HostRuntime) -> Result<(), Fail> {
+    assert_eq!(rt;
+        asked(&rt, "create store_16.bytes-x")?,
+        Some(Command::Create)
+    );
     assert_eq!(rt; asked(&rt, "exec")?, Some(Command::Exec));
+    assert_eq!(rt; asked(&rt, "check")?, Some(Command::Check));
     let others = [
-        "create store_16.bytes-x",
         "play",
         "work 18446744073709551615 64 1000000",
         "work 0 1 0",
         "ctrdmp dump",
         "ctfdmp copy",
         "ctfdmp copy 128",
-        "check",
     ];
     for line in others {
         assert_eq!(rt; asked(&rt, line)?, Some(Command::Unbuilt), "{line}");

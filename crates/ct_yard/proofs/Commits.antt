@@ -1,189 +1,359 @@
 -- What a commit makes of the machine that a yard stands for, by how far it has come.
-use Rattle.std.proofs.Common.{◌≡◌, ◌≤◌, ◌+◌, ◌-◌, ◌⊎◌, inl, inr, ℕ, List, [], ◌∷◌, ◌++◌, length, take, map, Bool, IsTrue, Some, None, Result, Ok, Err, refl, sym, ap, ap₂, ◌∙◌, subst, arith, append_assoc, length-append}
-use Rattle.std.proofs.lemmas.List.{take_at, append-nil}
+use Rattle.std.proofs.Common.{◌≡◌, ◌≤◌, ◌<◌, ◌+◌, ◌^◌, ◌⊎◌, inl, inr, ℕ, List, [], ◌∷◌, ◌++◌, length, Bool, true, false, ◌&&◌, ◌||◌, IsTrue, Some, None, Result, Ok, Err, refl, sym, ap, ap₂, ◌∙◌, subst, arith, length-append}
+use Rattle.std.specs.Prelude.{nat_lt}
+use Rattle.std.proofs.lemmas.Bool.{ltb-true, lt-ltb}
 use Rattle.ct_definitions.specs.declared.change.Change.{Change}
 use Rattle.ct_definitions.specs.declared.change.Transaction.{Transaction}
-use Rattle.ct_definitions.specs.Changes.{State}
-use Rattle.ct_definitions.specs.Histories.{after, after_changes, last_number}
-use Rattle.ct_laws.proofs.Histories.{after-push, last_number-push}
+use Rattle.ct_definitions.specs.Changes.{State, allows}
+use Rattle.ct_definitions.specs.Histories.{History, IsHistory, after, after_changes, allows_all, last_number}
+use Rattle.ct_disk.specs.Disk.{AllImages, LeavesOnly}
+use Rattle.ct_disk.proofs.Moments.{LeavesOnly-wider}
+use Rattle.ct_laws.proofs.Histories.{after-push, last_number-push, IsHistory-push}
 use Rattle.ct_disk.specs.declared.turn.HaltCause.{HaltCause}
-use Rattle.ct_disk.specs.declared.turn.HaltCause.TheVariants.{Memory as NoRoom}
+use Rattle.ct_disk.specs.declared.turn.HaltCause.TheVariants.{Write, Memory as NoRoom, Limit}
 use Rattle.ct_group.specs.Commit.{commit_text}
-use Rattle.ct_log.specs.Front.{front}
-use Rattle.ct_log.specs.Chunks.{open_chunk, chunks_text, EndsAfter}
+use Rattle.ct_group.specs.Groups.{FitsTransaction}
+use Rattle.ct_log.specs.Chunks.{open_chunk, chunk_size, EndsAfter, IsShort}
+use Rattle.ct_log.specs.Flow.{has_room as has_room_in, IsAtRest}
 use Rattle.ct_log.specs.Log.{IsLog, durable_text}
 use Rattle.ct_log.specs.Stages.{Stands}
+use Rattle.ct_log.specs.declared.flow.Flow.{Flow}
 use Rattle.ct_log.specs.declared.log.Log.{Log}
 use Rattle.ct_log.specs.declared.stage.Stage.TheVariants.{Idle}
-use Rattle.ct_log.proofs.ChunkLaws.{chunks_text-more}
-use Rattle.ct_log.proofs.Flushes.{read_at}
+use Rattle.ct_log.proofs.Flushes.{left_at, length-text}
+use Rattle.ct_log.proofs.Steps.{length-open_chunk}
 use Rattle.ct_yard.specs.declared.yard.CommitFault.{CommitFault}
 use Rattle.ct_yard.specs.declared.yard.CommitFault.TheVariants.{Memory, Halted}
 use Rattle.ct_yard.specs.declared.yard.Yard.{Yard}
-use Rattle.ct_yard.specs.Machine.{Machine, empty_machine, next_transaction, with_change, HasHaltCause, Commits}
-use Rattle.ct_yard.specs.Writes.{of_one, IsWritten, IsRefused, IsStopped, Writes, IsPerformed, Performs}
-use Rattle.ct_yard.specs.Yards.{log_text, without_last, HasTransactions, HoldsHistory, StandsFor}
+use Rattle.ct_yard.specs.Machine.{Machine, opened_machine, next_transaction, with_change, group_size, has_room, halted_history, HasHaltCause, FitsRoom, Commits}
+use Rattle.ct_yard.specs.LogTexts.{IsTextOf, HoldsPrefix}
+use Rattle.ct_yard.specs.Writes.{of_one, has_room_for, IsWritten, IsRefused, IsStopped, Writes, IsPerformed, Performs}
+use Rattle.ct_yard.specs.Yards.{StandsFor, KeptThrough}
+use Rattle.ct_yard.proofs.LogTexts.{text_more, whole_held, either_held}
 
--- ---- one transaction more
+-- what is written where the log tells its content is so where the yard is founded
+pub narrower : {P L : Type 0} (tells founded : Bool) (count_of : L → ℕ) (content : L → List ℕ) (may_leave : L → List ℕ → Type 0) (left_since : L → L → List ℕ → Type 0) (group : List ℕ) (result : Result Unit CommitFault) (old new : Yard P L)
+    → (IsTrue founded → IsTrue tells) → Writes tells count_of content may_leave left_since group result old new → Writes founded count_of content may_leave left_since group result old new
+narrower tells founded count_of content may_leave left_since group (Ok _) old new told is = record {
+  pages = is.pages;
+  state = is.state;
+  halt = is.halt;
+  front = is.front;
+  at_rest = is.at_rest;
+  end = is.end;
+  next = is.next;
+  log = λ here. is.log (told here);
+  text = λ here. is.text (told here);
+  moments = λ here. is.moments (told here);
+  faults = is.faults;
+}
+narrower tells founded count_of content may_leave left_since group (Err Memory) old new told is = record {
+  pages = is.pages;
+  state = is.state;
+  halt = is.halt;
+  front = is.front;
+  device = is.device;
+  at_rest = is.at_rest;
+  end = is.end;
+  next = is.next;
+  log = λ here. is.log (told here);
+  text = is.text;
+}
+narrower tells founded count_of content may_leave left_since group (Err (Halted cause)) old new told is = record {
+  pages = is.pages;
+  halt = is.halt;
+  front = is.front;
+  end = is.end;
+  kind = is.kind;
+  log = λ here. is.log (told here);
+  stands = λ here. is.stands (told here);
+  moments = λ here. is.moments (told here);
+  why = is.why;
+}
 
-map_more : (ts : List Transaction) (t : Transaction) → map commit_text (ts ++ t ∷ []) ≡ map commit_text ts ++ commit_text t ∷ []
-map_more [] t = refl
-map_more (x ∷ ts) t = ap (λ (l : List (List ℕ)). commit_text x ∷ l) (map_more ts t)
-
-log_text-more : (id : List ℕ) (base : ℕ) (ts : List Transaction) (t : Transaction) → log_text id base ts ++ open_chunk (commit_text t) ≡ log_text id base (ts ++ t ∷ [])
-log_text-more id base ts t =
-    let chunks = map commit_text ts in
-    append_assoc (front id base) (chunks_text chunks) (open_chunk (commit_text t))
-    ∙ ap (λ (l : List ℕ). front id base ++ l) (sym (chunks_text-more chunks (commit_text t)) ∙ ap (λ (l : List (List ℕ)). chunks_text l) (sym (map_more ts t)))
-
-without_more : (ts : List Transaction) (t : Transaction) → without_last (ts ++ t ∷ []) ≡ ts
-without_more ts t =
-    let n : length (ts ++ t ∷ []) - 1 ≡ length ts = omega (arith, length-append ts (t ∷ [])) in
-    ap (λ k. take k (ts ++ t ∷ [])) n ∙ take_at ts (t ∷ []) (length ts) refl
+-- whether there is room, by the three numbers
+pub room_by_numbers : (number n : ℕ) (flow : Flow) → IsAtRest flow → n ≤ 8000
+    → (nat_lt number (2 ^ 63) && has_room_in flow n) ≡ (nat_lt number (2 ^ 63) && nat_lt flow.next (2 ^ 63) && nat_lt (flow.end + 5 + n) (2 ^ 62))
+room_by_numbers number n flow rest short =
+    let waiting : length flow.waiting ≡ 0 = ap (λ (l : List ℕ). length l) rest.waiting in
+    let taken : chunk_size flow.taken ≡ 0 = ap (λ (l : List ℕ). chunk_size l) rest.taken in
+    let small : nat_lt (length flow.waiting + n) (2 ^ 32) ≡ true = lt-ltb (length flow.waiting + n) (2 ^ 32) (omega (arith, waiting, short)) in
+    let place : flow.end + chunk_size flow.taken + 5 + length flow.waiting + n ≡ flow.end + 5 + n = omega (arith, waiting, taken) in
+    ap (λ (b : Bool). nat_lt number (2 ^ 63) && (b && nat_lt (flow.end + chunk_size flow.taken + 5 + length flow.waiting + n) (2 ^ 62) && nat_lt flow.next (2 ^ 63))) small
+    ∙ ap (λ k. nat_lt number (2 ^ 63) && (nat_lt k (2 ^ 62) && nat_lt flow.next (2 ^ 63))) place
+    ∙ turned (nat_lt number (2 ^ 63)) (nat_lt (flow.end + 5 + n) (2 ^ 62)) (nat_lt flow.next (2 ^ 63))
+  where
+    turned : (a b c : Bool) → (a && (b && c)) ≡ (a && c && b)
+    turned false b c = refl
+    turned true false false = refl
+    turned true false true = refl
+    turned true true false = refl
+    turned true true true = refl
 
 free_cause : (cause : HaltCause) (before now : ℕ) → cause ≡ NoRoom → before ≤ now → HasHaltCause cause before now
 free_cause cause before now is later = subst (λ (why : HaltCause). HasHaltCause why before now) (sym is) later
 
--- a yard whose log has begun stands for the machine with no history
-pub empty_stands : {L : Type 0} (tells : Bool) (count_of : L → ℕ) (content : L → List ℕ) (may_leave : L → List ℕ → Type 0) (new : Yard L) (id : List ℕ)
-    → new.halt ≡ None → new.front ≡ 0 → new.state ≡ [] → new.log.flow.stage ≡ Idle → (IsTrue tells → IsLog content may_leave new.log) → (IsTrue tells → durable_text content new.log ≡ front id 0)
-    → StandsFor tells count_of content id (empty_machine (count_of new.log.device)) new
-empty_stands tells count_of content may_leave new id runs first none idle log text =
-    let is_text : IsTrue tells → durable_text content new.log ≡ log_text id 0 [] = λ told. text told ∙ sym (append-nil (front id 0)) in
-    record {
-      halt = runs;
-      front = first;
-      state = λ _. none;
-      faults = refl;
-      text = λ told _. is_text told;
-      holds = λ told. subst (λ (l : List ℕ). EndsAfter l (content new.log.device)) (is_text told) (read_at content may_leave new.log Idle (log told) idle);
-    }
+-- a yard whose log is at rest and holds a history stands for it
+pub assembled : {P L : Type 0} (tells : Bool) (count_of : L → ℕ) (content : L → List ℕ) (may_leave : L → List ℕ → Type 0) (new : Yard P L) (front : List ℕ) (history : History)
+    → new.halt ≡ None → IsAtRest new.log.flow → IsHistory history → new.front ≡ last_number history → new.state ≡ after history
+    → (IsTrue tells → IsLog content may_leave new.log) → (IsTrue tells → IsTextOf front history.transactions (durable_text content new.log)) → (IsTrue tells → new.log.flow.end < 2 ^ 62)
+    → StandsFor tells count_of content may_leave front (opened_machine history (count_of new.log.device) new.log.flow.end new.log.flow.next) new
+assembled tells count_of content may_leave new front history runs rest defined numbered state log text small = record {
+  halt = runs;
+  number = numbered;
+  state = λ _. state;
+  faults = refl;
+  end = refl;
+  next = λ _. refl;
+  history = defined;
+  acknowledged = λ _. refl;
+  log = log;
+  text = λ told _. text told;
+  left = λ told c now. whole_held front history (durable_text content new.log) c (last_number history) (omega arith) (text told) (omega (arith, small told, length-text content may_leave new.log (log told))) (left_at content may_leave new.log Idle (log told) rest.stage c now);
+}
 
-module _ {L : Type 0} (tells : Bool) (count_of : L → ℕ) (content : L → List ℕ) (may_leave : L → List ℕ → Type 0)
-    (old mid : Yard L) (change : Change) (t : Transaction) (group id : List ℕ) (machine : Machine)
+module _ {P L : Type 0} (tells : Bool) (count_of : L → ℕ) (content : L → List ℕ) (may_leave : L → List ℕ → Type 0) (left_since : L → L → List ℕ → Type 0)
+    (old : Yard P L) (change : Change) (t : Transaction) (group front : List ℕ) (machine : Machine)
     (running : old.halt ≡ None) (made : t ≡ of_one (old.front + 1) change) (text : group ≡ commit_text t)
-    (stands : StandsFor tells count_of content id machine old) where
+    (stands : StandsFor tells count_of content may_leave front machine old) where
   is_running : machine.halt ≡ None
   is_running = sym stands.halt ∙ running
 
   same_transaction : t ≡ next_transaction machine.history change
-  same_transaction = made ∙ ap (λ n. of_one (n + 1) change) stands.front
+  same_transaction = made ∙ ap (λ n. of_one (n + 1) change) stands.number
 
-  -- the text with the group is that of the longer history
-  longer : IsTrue tells → durable_text content old.log ++ open_chunk group ≡ log_text id machine.history.base_number (with_change machine.history change).transactions
-  longer told =
-      ap₂ (λ (a b : List ℕ). a ++ open_chunk b) (stands.text told is_running) (text ∙ ap commit_text same_transaction)
-      ∙ log_text-more id machine.history.base_number machine.history.transactions (next_transaction machine.history change)
+  same_group : group ≡ commit_text (next_transaction machine.history change)
+  same_group = text ∙ ap commit_text same_transaction
 
-  one_more : old.front + 1 ≡ last_number (with_change machine.history change)
-  one_more = ap (λ n. n + 1) stands.front ∙ sym (last_number-push machine.history (next_transaction machine.history change))
+  same_size : length group ≡ group_size machine change
+  same_size = ap (λ (l : List ℕ). length l) same_group
 
-  -- the group is in the log
-  written_ends : IsWritten tells count_of content may_leave group old mid → IsTrue tells → EndsAfter (log_text id machine.history.base_number (with_change machine.history change).transactions) (content mid.log.device)
-  written_ends written told =
-      subst (λ (l : List ℕ). EndsAfter l (content mid.log.device)) (written.text told ∙ longer told)
-      (read_at content may_leave mid.log Idle (written.log told) (written.settled).idle)
+  -- the yard has room where the machine has
+  same_room : has_room_for old (length group) ≡ has_room machine change
+  same_room =
+      ap (λ n. nat_lt n (2 ^ 63) && nat_lt old.log.flow.next (2 ^ 63) && nat_lt (old.log.flow.end + 5 + length group) (2 ^ 62)) stands.number
+      ∙ ap (λ n. nat_lt (last_number machine.history) (2 ^ 63) && nat_lt n (2 ^ 63) && nat_lt (old.log.flow.end + 5 + length group) (2 ^ 62)) (stands.next is_running)
+      ∙ ap₂ (λ n k. nat_lt (last_number machine.history) (2 ^ 63) && nat_lt machine.next (2 ^ 63) && nat_lt (n + 5 + k) (2 ^ 62)) stands.end same_size
 
-  ends : (new : Yard L) → IsWritten tells count_of content may_leave group old mid → new.log ≡ mid.log → IsTrue tells
-      → EndsAfter (log_text id machine.history.base_number (with_change machine.history change).transactions) (content new.log.device)
-  ends new written same told =
-      subst (λ (l : Log L). EndsAfter (log_text id machine.history.base_number (with_change machine.history change).transactions) (content l.device)) (sym same) (written_ends written told)
-
-  later : (new : Yard L) → IsWritten tells count_of content may_leave group old mid → new.log ≡ mid.log → machine.faults ≤ count_of new.log.device
-  later new written same =
-      let count : count_of new.log.device ≡ count_of mid.log.device = ap (λ (l : Log L). count_of l.device) same in
-      omega (arith, written.faults, stands.faults, count)
-
-  done : (number : ℕ) (new : Yard L) → IsWritten tells count_of content may_leave group old mid → new.log ≡ mid.log → new.front ≡ mid.front → IsPerformed t number mid new
-      → (then : Machine) × Commits machine change (Ok number) then × StandsFor tells count_of content id then new
-  done number new written same_log same_front performed =
-      let numbered : new.front ≡ last_number (with_change machine.history change) = same_front ∙ written.front ∙ one_more in
-      let state : new.state ≡ after (with_change machine.history change) =
-      performed.state
-      ∙ ap₂ (λ (s : State) (one : Transaction). after_changes s one.changes) (written.state ∙ stands.state is_running) same_transaction
-      ∙ sym (after-push machine.history (next_transaction machine.history change)) in
-      let is_text : IsTrue tells → durable_text content new.log ≡ log_text id machine.history.base_number (with_change machine.history change).transactions =
-      λ told. ap (λ (l : Log L). durable_text content l) same_log ∙ written.text told ∙ longer told in (
-        record { history = with_change machine.history change; halt = None; faults = count_of new.log.device },
-        (performed.answer ∙ numbered, record { history = refl; running = refl; faults = later new written same_log }),
-        record {
-          halt = performed.halt ∙ written.halt;
-          front = numbered;
-          state = λ _. state;
-          faults = refl;
-          text = λ told _. is_text told;
-          holds = λ told. ends new written same_log told;
-        },
-      )
-
-  wanting : (cause : HaltCause) (new : Yard L) → IsWritten tells count_of content may_leave group old mid → new.log ≡ mid.log → new.front ≡ mid.front → cause ≡ NoRoom → new.halt ≡ Some NoRoom
-      → (then : Machine) × Commits machine change (Err (Halted cause)) then × StandsFor tells count_of content id then new
-  wanting cause new written same_log same_front is halted = (
-    record { history = with_change machine.history change; halt = Some cause; faults = count_of new.log.device },
-    record { history = refl; halt = refl; cause = free_cause cause machine.faults (count_of new.log.device) is (later new written same_log) },
+  -- there was no room, and the store halts with nothing else changed
+  pub full : (new : Yard P L) → has_room_for old (length group) ≡ false → new.halt ≡ Some Limit → new.log ≡ old.log → new.front ≡ old.front
+      → (then : Machine) × Commits machine change (Err (Halted Limit)) then × StandsFor tells count_of content may_leave front then new
+      × KeptThrough tells left_since front machine old.log.device then new.log.device
+  full new none halted same_log same_front = (
+    record { history = machine.history; acknowledged = machine.acknowledged; halt = Some Limit; faults = machine.faults; end = machine.end; next = machine.next },
+    record { room = sym same_room ∙ none; history = refl; acknowledged = refl; halt = refl; cause = omega arith },
     record {
-      halt = halted ∙ ap (λ (why : HaltCause). Some why) (sym is);
-      front = same_front ∙ written.front ∙ one_more;
-      state = λ none. let no : ⊥ = cc none in absurd no;
-      faults = refl;
-      text = λ told none. let no : ⊥ = cc none in absurd no;
-      holds = λ told. inl (ends new written same_log told);
+      halt = halted;
+      number = same_front ∙ stands.number;
+      state = λ runs. let no : ⊥ = cc runs in absurd no;
+      faults = ap (λ (l : Log L). count_of l.device) same_log ∙ stands.faults;
+      end = ap (λ (l : Log L). l.flow.end) same_log ∙ stands.end;
+      next = λ runs. let no : ⊥ = cc runs in absurd no;
+      history = stands.history;
+      acknowledged = λ runs. let no : ⊥ = cc runs in absurd no;
+      log = λ told. subst (λ (l : Log L). IsLog content may_leave l) (sym same_log) (stands.log told);
+      text = λ told runs. let no : ⊥ = cc runs in absurd no;
+      left = λ told. subst (λ (l : Log L). (c : List ℕ) → may_leave l.device c → HoldsPrefix front machine.history machine.acknowledged c) (sym same_log) (stands.left told);
     },
+    inl (ap (λ (l : Log L). l.device) same_log),
   )
 
-  -- the log has the transaction or not
-  either : (bytes : List ℕ) → IsTrue tells → Stands (durable_text content old.log) group bytes
-      → HasTransactions id machine.history.base_number (with_change machine.history change).transactions bytes
-      ⊎ HasTransactions id machine.history.base_number (without_last (with_change machine.history change).transactions) bytes
-  either bytes told (inr whole) = inl (subst (λ (l : List ℕ). EndsAfter l bytes) (longer told) whole)
-  either bytes told (inl first) =
-      let fewer = without_more machine.history.transactions (next_transaction machine.history change) in
-      inr (subst (λ (l : List ℕ). EndsAfter l bytes)
-      (stands.text told is_running ∙ ap (λ (ts : List Transaction). log_text id machine.history.base_number ts) (sym fewer)) first)
+  module _ (mid : Yard P L) (fits : t.number ≤ 2 ^ 63 → FitsTransaction t) (short : length group ≤ 8000) (allowed : allows old.state change ≡ true)
+      (room : has_room_for old (length group) ≡ true) where
+    abbrev here : History
+    here = with_change machine.history change
 
-  stopped : (cause : HaltCause) → IsStopped tells count_of content may_leave group cause old mid
-      → (then : Machine) × Commits machine change (Err (Halted cause)) then × StandsFor tells count_of content id then mid
-  stopped cause stop = (
-    record { history = with_change machine.history change; halt = Some cause; faults = count_of mid.log.device },
-    record { history = refl; halt = refl; cause = subst (λ n. HasHaltCause cause n (count_of mid.log.device)) stands.faults stop.why },
-    record {
-      halt = stop.halt;
-      front = stop.front ∙ one_more;
-      state = λ none. let no : ⊥ = cc none in absurd no;
-      faults = refl;
-      text = λ told none. let no : ⊥ = cc none in absurd no;
-      holds = λ told. either (content mid.log.device) told (stop.stands told);
-    },
-  )
+    abbrev next : Transaction
+    next = next_transaction machine.history change
 
-  refused : IsRefused tells content may_leave old mid → (then : Machine) × Commits machine change (Err Memory) then × StandsFor tells count_of content id then mid
-  refused none = (
-    machine,
-    refl,
-    record {
-      halt = none.halt ∙ sym is_running;
-      front = none.front ∙ stands.front;
-      state = λ runs. none.state ∙ stands.state runs;
-      faults = ap count_of none.device ∙ stands.faults;
-      text = λ told runs. none.text told ∙ stands.text told runs;
-      holds = λ told. subst (λ (d : L). HoldsHistory id machine (content d)) (sym none.device) (stands.holds told);
-    },
-  )
+    has_room_here : has_room machine change ≡ true
+    has_room_here = sym same_room ∙ room
 
-  -- the group was not written, or not for good
-  pub failed : (result : Result ℕ CommitFault) (fault other : CommitFault) → result ≡ Err other → other ≡ fault → Writes tells count_of content may_leave group (Err fault) old mid
-      → (then : Machine) × Commits machine change result then × StandsFor tells count_of content id then mid
-  failed result fault other is same writes =
-      subst (λ (r : Result ℕ CommitFault). (then : Machine) × Commits machine change r then × StandsFor tells count_of content id then mid)
-      (sym (is ∙ ap (λ (f : CommitFault). Err f) same)) (by fault writes)
-    where
-      by : (fault : CommitFault) → Writes tells count_of content may_leave group (Err fault) old mid → (then : Machine) × Commits machine change (Err fault) then × StandsFor tells count_of content id then mid
-      by Memory writes = refused writes
-      by (Halted cause) writes = stopped cause writes
+    below_last : old.front < 2 ^ 63
+    below_last = ltb-true old.front (2 ^ 63) (first_of (nat_lt old.front (2 ^ 63)) (nat_lt old.log.flow.next (2 ^ 63)) (nat_lt (old.log.flow.end + 5 + length group) (2 ^ 62)) room)
+      where
+        first_of : (a b c : Bool) → (a && b && c) ≡ true → a ≡ true
+        first_of true b c h = refl
+        first_of false b c h = h
 
-  -- it was, and the change is made or wants memory
-  pub performed : (result : Result ℕ CommitFault) (new : Yard L) → IsWritten tells count_of content may_leave group old mid → new.log ≡ mid.log → new.front ≡ mid.front → Performs t result mid new
-      → (then : Machine) × Commits machine change result then × StandsFor tells count_of content id then new
-  performed (Ok number) new written same_log same_front performs = done number new written same_log same_front performs
-  performed (Err Memory) new written same_log same_front performs = absurd performs
-  performed (Err (Halted cause)) new written same_log same_front performs = wanting cause new written same_log same_front performs.0 performs.1
+    -- the log ends within its limit, with the group too
+    end_below : old.log.flow.end + 5 + length group < 2 ^ 62
+    end_below = ltb-true (old.log.flow.end + 5 + length group) (2 ^ 62) (last_of (nat_lt old.front (2 ^ 63)) (nat_lt old.log.flow.next (2 ^ 63)) (nat_lt (old.log.flow.end + 5 + length group) (2 ^ 62)) room)
+      where
+        last_of : (a b c : Bool) → (a && b && c) ≡ true → c ≡ true
+        last_of true true c h = h
+        last_of true false c h = let none : ⊥ = cc h in absurd none
+        last_of false b c h = let none : ⊥ = cc h in absurd none
+
+    longer_below : IsTrue tells → length (durable_text content old.log ++ open_chunk group) < 2 ^ 62
+    longer_below told = omega (arith, end_below, length-text content may_leave old.log (stands.log told), length-append (durable_text content old.log) (open_chunk group), length-open_chunk group)
+
+    fits_here : FitsTransaction next
+    fits_here =
+        let number : t.number ≡ old.front + 1 = ap (λ (x : Transaction). x.number) made in
+        subst (λ (x : Transaction). FitsTransaction x) same_transaction (fits (omega (arith, number, below_last)))
+
+    short_here : IsShort (commit_text next)
+    short_here = subst (λ (l : List ℕ). IsShort l) same_group (omega (arith, short))
+
+    defined : IsHistory here
+    defined = IsHistory-push machine.history next stands.history refl
+        (ap (λ (s : State). allows s change && true) (sym (stands.state is_running)) ∙ ap (λ (b : Bool). b && true) allowed)
+
+    one_more : old.front + 1 ≡ last_number here
+    one_more = ap (λ n. n + 1) stands.number ∙ sym (last_number-push machine.history next)
+
+    known : machine.acknowledged ≡ last_number machine.history
+    known = stands.acknowledged is_running
+
+    -- the text with the group is that of the longer history
+    longer : IsTrue tells → IsTextOf front here.transactions (durable_text content old.log ++ open_chunk group)
+    longer told = subst (λ (g : List ℕ). IsTextOf front here.transactions (durable_text content old.log ++ open_chunk g)) (sym same_group)
+        (text_more front machine.history.transactions next (durable_text content old.log) fits_here short_here (stands.text told is_running))
+
+    -- whatever stands for the text or the longer one is kept
+    either : IsTrue tells → (c : List ℕ) → Stands (durable_text content old.log) group c → HoldsPrefix front here machine.acknowledged c
+    either told c is = either_held front machine.history change (durable_text content old.log) group c machine.acknowledged (omega (arith, known)) (stands.text told is_running) (longer told) (longer_below told) is
+
+    through : (IsTrue tells → IsLog content may_leave old.log → LeavesOnly left_since (Stands (durable_text content old.log) group) old.log.device mid.log.device)
+        → IsTrue tells → LeavesOnly left_since (HoldsPrefix front here machine.acknowledged) old.log.device mid.log.device
+    through moments told = LeavesOnly-wider left_since (Stands (durable_text content old.log) group) (HoldsPrefix front here machine.acknowledged) old.log.device mid.log.device (either told) (moments told (stands.log told))
+
+    -- the group is in the log, and a crash leaves it there
+    written_text : IsWritten tells count_of content may_leave left_since group old mid → IsTrue tells → IsTextOf front here.transactions (durable_text content mid.log)
+    written_text written told = subst (λ (l : List ℕ). IsTextOf front here.transactions l) (sym (written.text told (stands.log told))) (longer told)
+
+    written_left : IsWritten tells count_of content may_leave left_since group old mid → (least : ℕ) → least ≤ last_number here → IsTrue tells → (c : List ℕ) → may_leave mid.log.device c → HoldsPrefix front here least c
+    written_left written least from told c now = whole_held front here (durable_text content mid.log) c least from (written_text written told) (omega (arith, end_below, written.end, length-text content may_leave mid.log (written.log told (stands.log told))))
+        (left_at content may_leave mid.log Idle (written.log told (stands.log told)) (written.at_rest).stage c now)
+
+    acknowledged_within : machine.acknowledged ≤ last_number here
+    acknowledged_within = omega (arith, known, last_number-push machine.history next)
+
+    done : (number : ℕ) (new : Yard P L) → IsWritten tells count_of content may_leave left_since group old mid → new.log ≡ mid.log → new.front ≡ mid.front → IsPerformed t number mid new
+        → (then : Machine) × Commits machine change (Ok number) then × StandsFor tells count_of content may_leave front then new
+        × KeptThrough tells left_since front machine old.log.device then new.log.device
+    done number new written same_log same_front performed =
+        let numbered : new.front ≡ last_number here = same_front ∙ written.front ∙ one_more in
+        let state : new.state ≡ after here =
+        performed.state
+        ∙ ap₂ (λ (s : State) (one : Transaction). after_changes s one.changes) (written.state ∙ stands.state is_running) same_transaction
+        ∙ sym (after-push machine.history next) in
+        let count : count_of new.log.device ≡ count_of mid.log.device = ap (λ (l : Log L). count_of l.device) same_log in (
+          record { history = here; acknowledged = last_number here; halt = None; faults = count_of new.log.device; end = machine.end + 5 + group_size machine change; next = machine.next + 1 },
+          (performed.answer ∙ numbered, record { room = has_room_here; history = refl; acknowledged = refl; running = refl; faults = omega (arith, written.faults, stands.faults, count); end = refl; next = refl }),
+          record {
+            halt = performed.halt ∙ written.halt;
+            number = numbered;
+            state = λ _. state;
+            faults = refl;
+            end = ap (λ (l : Log L). l.flow.end) same_log ∙ written.end ∙ ap₂ (λ n k. n + 5 + k) stands.end same_size;
+            next = λ _. ap (λ (l : Log L). l.flow.next) same_log ∙ written.next ∙ ap (λ n. n + 1) (stands.next is_running);
+            history = defined;
+            acknowledged = λ _. refl;
+            log = λ told. subst (λ (l : Log L). IsLog content may_leave l) (sym same_log) (written.log told (stands.log told));
+            text = λ told _. subst (λ (l : Log L). IsTextOf front here.transactions (durable_text content l)) (sym same_log) (written_text written told);
+            left = λ told. subst (λ (l : Log L). (c : List ℕ) → may_leave l.device c → HoldsPrefix front here (last_number here) c) (sym same_log) (written_left written (last_number here) (omega arith) told);
+          },
+          inr (λ told. subst (λ (l : Log L). LeavesOnly left_since (HoldsPrefix front here machine.acknowledged) old.log.device l.device) (sym same_log) (through written.moments told)),
+        )
+
+    wanting : (cause : HaltCause) (new : Yard P L) → IsWritten tells count_of content may_leave left_since group old mid → new.log ≡ mid.log → new.front ≡ mid.front → cause ≡ NoRoom → new.halt ≡ Some NoRoom
+        → (then : Machine) × Commits machine change (Err (Halted cause)) then × StandsFor tells count_of content may_leave front then new
+        × KeptThrough tells left_since front machine old.log.device then new.log.device
+    wanting cause new written same_log same_front is halted =
+        subst (λ (why : HaltCause). (then : Machine) × Commits machine change (Err (Halted why)) then × StandsFor tells count_of content may_leave front then new × KeptThrough tells left_since front machine old.log.device then new.log.device) (sym is)
+        (let count : count_of new.log.device ≡ count_of mid.log.device = ap (λ (l : Log L). count_of l.device) same_log in (
+          record { history = here; acknowledged = machine.acknowledged; halt = Some NoRoom; faults = count_of new.log.device; end = machine.end + 5 + group_size machine change; next = machine.next },
+          record { room = has_room_here; history = refl; acknowledged = refl; halt = refl; cause = omega (arith, written.faults, stands.faults, count) },
+          record {
+            halt = halted;
+            number = same_front ∙ written.front ∙ one_more;
+            state = λ runs. let no : ⊥ = cc runs in absurd no;
+            faults = refl;
+            end = ap (λ (l : Log L). l.flow.end) same_log ∙ written.end ∙ ap₂ (λ n k. n + 5 + k) stands.end same_size;
+            next = λ runs. let no : ⊥ = cc runs in absurd no;
+            history = defined;
+            acknowledged = λ runs. let no : ⊥ = cc runs in absurd no;
+            log = λ told. subst (λ (l : Log L). IsLog content may_leave l) (sym same_log) (written.log told (stands.log told));
+            text = λ told runs. let no : ⊥ = cc runs in absurd no;
+            left = λ told. subst (λ (l : Log L). (c : List ℕ) → may_leave l.device c → HoldsPrefix front here machine.acknowledged c) (sym same_log) (written_left written machine.acknowledged acknowledged_within told);
+          },
+          inr (λ told. subst (λ (l : Log L). LeavesOnly left_since (HoldsPrefix front here machine.acknowledged) old.log.device l.device) (sym same_log) (through written.moments told)),
+        ))
+
+    stopped : (cause : HaltCause) → IsStopped tells count_of content may_leave left_since group cause old mid
+        → (then : Machine) × Commits machine change (Err (Halted cause)) then × StandsFor tells count_of content may_leave front then mid
+        × KeptThrough tells left_since front machine old.log.device then mid.log.device
+    stopped cause stop = (
+      record { history = halted_history cause machine.history change; acknowledged = machine.acknowledged; halt = Some cause; faults = count_of mid.log.device; end = machine.end; next = machine.next },
+      record { room = by_kind cause stop.kind; history = refl; acknowledged = refl; halt = refl; cause = subst (λ n. HasHaltCause cause n (count_of mid.log.device)) stands.faults stop.why },
+      record {
+        halt = stop.halt;
+        number = stop.front ∙ one_more ∙ ap (λ (h : History). last_number h) (sym longer_by_kind);
+        state = λ runs. let no : ⊥ = cc runs in absurd no;
+        faults = refl;
+        end = stop.end ∙ stands.end;
+        next = λ runs. let no : ⊥ = cc runs in absurd no;
+        history = subst (λ (h : History). IsHistory h) (sym longer_by_kind) defined;
+        acknowledged = λ runs. let no : ⊥ = cc runs in absurd no;
+        log = λ told. stop.log told (stands.log told);
+        text = λ told runs. let no : ⊥ = cc runs in absurd no;
+        left = λ told c now. subst (λ (h : History). HoldsPrefix front h machine.acknowledged c) (sym longer_by_kind) (either told c (stop.stands told (stands.log told) c now));
+      },
+      inr (λ told. subst (λ (h : History). LeavesOnly left_since (HoldsPrefix front h machine.acknowledged) old.log.device mid.log.device) (sym longer_by_kind) (through stop.moments told)),
+    )
+      where
+        by_kind : (why : HaltCause) → (why ≡ Write) ⊎ (why ≡ NoRoom) → FitsRoom why (has_room machine change)
+        by_kind why (inl is) = subst (λ (w : HaltCause). FitsRoom w (has_room machine change)) (sym is) has_room_here
+        by_kind why (inr is) = subst (λ (w : HaltCause). FitsRoom w (has_room machine change)) (sym is) has_room_here
+
+        longer_by : (why : HaltCause) → (why ≡ Write) ⊎ (why ≡ NoRoom) → halted_history why machine.history change ≡ here
+        longer_by why (inl is) = ap (λ (w : HaltCause). halted_history w machine.history change) is
+        longer_by why (inr is) = ap (λ (w : HaltCause). halted_history w machine.history change) is
+
+        longer_by_kind : halted_history cause machine.history change ≡ here
+        longer_by_kind = longer_by cause stop.kind
+
+    refused : IsRefused tells content may_leave old mid
+        → (then : Machine) × Commits machine change (Err Memory) then × StandsFor tells count_of content may_leave front then mid
+        × KeptThrough tells left_since front machine old.log.device then mid.log.device
+    refused none = (
+      machine,
+      refl,
+      record {
+        halt = none.halt ∙ sym is_running;
+        number = none.front ∙ stands.number;
+        state = λ runs. none.state ∙ stands.state runs;
+        faults = ap count_of none.device ∙ stands.faults;
+        end = none.end ∙ stands.end;
+        next = λ runs. none.next ∙ stands.next runs;
+        history = stands.history;
+        acknowledged = stands.acknowledged;
+        log = λ told. none.log told (stands.log told);
+        text = λ told runs. subst (λ (l : List ℕ). IsTextOf front machine.history.transactions l) (sym none.text) (stands.text told runs);
+        left = λ told. subst (λ (d : L). (c : List ℕ) → may_leave d c → HoldsPrefix front machine.history machine.acknowledged c) (sym none.device) (stands.left told);
+      },
+      inl none.device,
+    )
+
+    -- the group was not written, or not for good
+    pub failed : (result : Result ℕ CommitFault) (fault other : CommitFault) → result ≡ Err other → other ≡ fault → Writes tells count_of content may_leave left_since group (Err fault) old mid
+        → (then : Machine) × Commits machine change result then × StandsFor tells count_of content may_leave front then mid
+        × KeptThrough tells left_since front machine old.log.device then mid.log.device
+    failed result fault other is same writes =
+        subst (λ (r : Result ℕ CommitFault). (then : Machine) × Commits machine change r then × StandsFor tells count_of content may_leave front then mid × KeptThrough tells left_since front machine old.log.device then mid.log.device)
+        (sym (is ∙ ap (λ (f : CommitFault). Err f) same)) (by fault writes)
+      where
+        by : (fault : CommitFault) → Writes tells count_of content may_leave left_since group (Err fault) old mid
+            → (then : Machine) × Commits machine change (Err fault) then × StandsFor tells count_of content may_leave front then mid × KeptThrough tells left_since front machine old.log.device then mid.log.device
+        by Memory writes = refused writes
+        by (Halted cause) writes = stopped cause writes
+
+    -- it was, and the change is made or wants memory
+    pub performed : (result : Result ℕ CommitFault) (new : Yard P L) → IsWritten tells count_of content may_leave left_since group old mid → new.log ≡ mid.log → new.front ≡ mid.front → Performs t result mid new
+        → (then : Machine) × Commits machine change result then × StandsFor tells count_of content may_leave front then new
+        × KeptThrough tells left_since front machine old.log.device then new.log.device
+    performed (Ok number) new written same_log same_front performs = done number new written same_log same_front performs
+    performed (Err Memory) new written same_log same_front performs = absurd performs
+    performed (Err (Halted cause)) new written same_log same_front performs = wanting cause new written same_log same_front performs.0 performs.1

@@ -1,3 +1,4 @@
 pub mod Commits
 pub mod Flushes
 pub mod Lengths
+pub mod LogTexts

@@ -1,4 +1,6 @@
 pub mod Flushing
+pub mod Kept
+pub mod LogTexts
 pub mod Machine
 pub mod Writes
 pub mod Yards

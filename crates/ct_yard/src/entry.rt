@@ -1,7 +1,8 @@
 //! A change as the transaction that the log gets.
 
-ghost use Rattle.std.specs.Prelude.{◌≡◌, ◌≤◌, ◌<◌, length, IfOk};
+ghost use Rattle.std.specs.Prelude.{◌≡◌, ◌≤◌, ◌<◌, ◌^◌, length, IfOk};
 ghost use Rattle.ct_group.specs.Commit.{commit_text};
+ghost use Rattle.ct_group.specs.Groups.{FitsTransaction};
 ghost use Rattle.ct_yard.specs.Writes.{of_one, HasOne};
 
 use ct_definitions::{Change, Changes, Made, Transaction};
@@ -37,6 +38,7 @@ pub(crate) fn group_of(
     ensures text { IfOk result (λ group. group.items ≡ commit_text transaction.now) }
     ensures some { IfOk result (λ group. 0 < length group.items) }
     ensures short { IfOk result (λ group. length group.items ≤ 8000) }
+    ensures fits { IfOk result (λ group. transaction.now.number ≤ 2 ^ 63 → FitsTransaction transaction.now) }
 {
     let _files = state.files();
     let mut group = Vec::new(alloc);

@@ -1,7 +1,6 @@
 //! A whole flush of the log, and the cause of a halt in it.
 
-ghost use Rattle.std.specs.Prelude.{◌≡◌, ◌<◌, ◌+◌, IsTrue};
-ghost use Rattle.ct_log.specs.Log.{IsLog};
+ghost use Rattle.std.specs.Prelude.{◌≡◌, ◌<◌, ◌+◌, []};
 ghost use Rattle.ct_log.specs.declared.stage.Stage.TheVariants.{Idle};
 ghost use Rattle.ct_yard.specs.Flushing.{Flushes, halt_cause};
 
@@ -9,12 +8,12 @@ use ct_disk::{Disk, DiskError, HaltCause};
 use ct_log::Log;
 
 /// Makes the groups that wait durable: their chunk, a sync, its gate, a sync.
-/// After an `Err` a read gives the log with this chunk or without it.
+/// After an `Err` a crash leaves the log with this chunk or without it.
 pub(crate) fn flush<L: Disk>(log: &mut Log<L>) -> Result<(), DiskError>
     requires idle { log.old.flow.stage ≡ Idle }
+    requires none { log.old.flow.taken ≡ [] }
     requires unflushed { log.old.flow.durable + 1 < log.old.flow.next }
-    requires log { IsTrue L.tells → IsLog L.content L.may_leave log.old }
-    ensures { Flushes L.tells L.faults L.content L.may_leave result log.old log.new }
+    ensures { Flushes L.tells L.faults L.content L.may_leave L.left_since result log.old log.new }
 {
     log.flush_step()?;
     log.flush_step()?;

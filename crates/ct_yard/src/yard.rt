@@ -1,10 +1,10 @@
 //! The yard of one session, over the plain state.
 
-ghost use Rattle.std.specs.Prelude.{◌≡◌, ◌≤◌, ◌<◌, ◌^◌, ◌+◌, ℕ, List, [], length, IsTrue, true, Some, None};
-ghost use Rattle.ct_log.specs.declared.stage.Stage.TheVariants.{Idle};
-ghost use Rattle.ct_log.specs.Front.{front};
+ghost use Rattle.std.specs.Prelude.{◌≡◌, ◌≤◌, ◌<◌, ◌^◌, ◌+◌, ℕ, Bool, List, length, IsTrue, true, Some, None};
+ghost use Rattle.ct_log.specs.Flow.{IsAtRest};
 ghost use Rattle.ct_log.specs.Log.{IsLog, durable_text};
 ghost use Rattle.ct_definitions.specs.Changes.{allows};
+ghost use Rattle.ct_definitions.specs.Histories.{History, IsHistory, after, last_number};
 
 use crate::entry::{group_of, single};
 use crate::flushing::{flush, halt_cause};
@@ -15,6 +15,9 @@ use ct_log::Log;
 use ct_model::{State, apply};
 use std::alloc::Global;
 use thiserror::Error;
+
+/// The last number that a transaction can have.
+const LAST_NUMBER: u64 = 1 << 63;
 
 /// Why a commit was not done.
 #[derive(Clone, Copy, Debug, PartialEq, Eq, Error)]
@@ -38,70 +41,87 @@ impl From<NoMemory> for CommitFault {
     }
 }
 
-/// A store while it is used: the state after its history, its log, the number of its last transaction,
-/// and the cause that halted it.
-pub struct Yard<L: Disk> {
+/// A store while it is used: its page device, the state after its history, its log, the number of its last
+/// transaction, and the cause that halted it.
+pub struct Yard<P: Disk, L: Disk> {
+    pub pages: P,
     pub state: State,
     pub log: Log<L>,
     pub front: u64,
     pub halt: Option<HaltCause>,
 }
 
-impl<L: Disk> Yard<L> {
-    ghost use Rattle.ct_yard.specs.Machine.{Machine, Commits, empty_machine};
-    ghost use Rattle.ct_yard.specs.Yards.{StandsFor, IsSound};
-    ghost use Rattle.ct_yard.specs.Writes.{HasOne, Writes, Performs};
+impl<P: Disk, L: Disk> Yard<P, L> {
+    ghost use Rattle.ct_yard.specs.LogTexts.{IsTextOf};
+    ghost use Rattle.ct_yard.specs.Machine.{Machine, Commits, opened_machine};
+    ghost use Rattle.ct_yard.specs.Yards.{StandsFor, IsSettled, KeptThrough};
+    ghost use Rattle.ct_yard.specs.Writes.{HasOne, Writes, Performs, has_room_for};
 
-    /// The yard of a log that was just made and opened: no files, and no transactions.
-    pub fn new(alloc: Global, log: Log<L>) -> Yard<L>
-        requires end { log.flow.end ≡ 12288 }
-        requires stage { log.flow.stage ≡ Idle }
-        requires waiting { log.flow.waiting ≡ [] }
-        requires taken { log.flow.taken ≡ [] }
-        requires durable { log.flow.durable ≡ 0 }
-        requires next { log.flow.next ≡ 1 }
-        requires log { IsTrue L.tells → IsLog L.content L.may_leave log }
+    /// The yard of a store that was opened: its state, its log at rest, and the number of its last transaction.
+    pub fn assemble(pages: P, state: State, log: Log<L>, front: u64) -> Yard<P, L>
+        requires at_rest { IsAtRest log.flow }
+        requires numbers { front ≤ 2 ^ 63 }
+        ensures pages { result.pages ≡ pages }
+        ensures state { result.state ≡ state }
         ensures log { result.log ≡ log }
-        ensures front { result.front ≡ 0 }
+        ensures front { result.front ≡ front }
         ensures running { result.halt ≡ None }
-        ensures sound { IsSound L.tells L.content L.may_leave result }
-        ensures stands { (id : List ℕ) → (IsTrue L.tells → durable_text L.content log ≡ front id 0)
-            → StandsFor L.tells L.faults L.content id (empty_machine (L.faults log.device)) result }
+        ensures settled { IsSettled result }
+        // Where its log holds the history, it stands for it.
+        ensures stands { (founded : Bool) (text : List ℕ) (history : History) → IsHistory history → front ≡ last_number history → state ≡ after history
+            → (IsTrue founded → IsLog L.content L.may_leave log)
+            → (IsTrue founded → IsTextOf text history.transactions (durable_text L.content log)) → (IsTrue founded → log.flow.end < 2 ^ 62)
+            → StandsFor founded L.faults L.content L.may_leave text (opened_machine history (L.faults log.device) log.flow.end log.flow.next) result }
     {
         Yard {
-            state: State::new(alloc),
+            pages,
+            state,
             log,
-            front: 0,
+            front,
             halt: None,
         }
     }
 
     /// Makes one change a transaction of session 1, and answers its number. It is in the log for good at `Ok`.
-    /// Where memory is wanted before the log has it, nothing has changed; later the store halts.
+    /// Where memory is wanted before the log has it, nothing has changed; later the store halts. It halts, too,
+    /// where a number would come past its last value.
     pub fn commit(&mut self, alloc: Global, change: Change) -> Result<u64, CommitFault>
         requires running { self.old.halt ≡ None }
         requires allowed { allows self.old.state change ≡ true }
-        requires numbers { self.old.front < 2 ^ 46 }
-        requires sound { IsSound L.tells L.content L.may_leave self.old }
-        ensures commits { (id : List ℕ) (machine : Machine) → StandsFor L.tells L.faults L.content id machine self.old →
-            (next : Machine) × Commits machine change result next × StandsFor L.tells L.faults L.content id next self.new }
-        ensures sound { IsSound L.tells L.content L.may_leave self.new }
-        ensures one { self.new.front ≤ self.old.front + 1 }
+        requires settled { IsSettled self.old }
+        ensures commits { (founded : Bool) (text : List ℕ) (machine : Machine) → (IsTrue founded → IsTrue L.tells) → StandsFor founded L.faults L.content L.may_leave text machine self.old →
+            (next : Machine) × Commits machine change result next × StandsFor founded L.faults L.content L.may_leave text next self.new
+            × KeptThrough founded L.left_since text machine self.old.log.device next self.new.log.device }
+        ensures settled { IsSettled self.new }
+        ensures pages { self.new.pages ≡ self.old.pages }
     {
         let transaction = single(alloc, self.front + 1, change)?;
         let group = group_of(alloc, &self.state, &transaction)?;
-        self.write(group.as_slice())?;
+        let group = group.as_slice();
+        if !self.has_room(group.len()) {
+            return Err(self.halted(HaltCause::Limit));
+        }
+        self.write(group)?;
         self.perform(alloc, &transaction)
+    }
+
+    /// Whether a group of this many bytes brings no number past its last value.
+    fn has_room(&self, len: usize) -> bool
+        requires at_rest { IsAtRest self.now.log.flow }
+        requires short { len ≤ 8000 }
+        ensures { result ≡ has_room_for self.now len }
+    {
+        self.front < LAST_NUMBER && self.log.has_room(len)
     }
 
     /// Writes a group to the log and makes it durable.
     fn write(&mut self, group: &[u8]) -> Result<(), CommitFault>
         requires some { 0 < length group.now }
         requires short { length group.now ≤ 8000 }
-        requires numbers { self.old.front < 2 ^ 46 }
+        requires room { has_room_for self.old (length group.now) ≡ true }
         requires running { self.old.halt ≡ None }
-        requires sound { IsSound L.tells L.content L.may_leave self.old }
-        ensures { Writes L.tells L.faults L.content L.may_leave group.now result self.old self.new }
+        requires settled { IsSettled self.old }
+        ensures { Writes L.tells L.faults L.content L.may_leave L.left_since group.now result self.old self.new }
     {
         self.log.append(group)?;
         self.front += 1;
@@ -114,6 +134,7 @@ impl<L: Disk> Yard<L> {
     /// Makes the change of a transaction that the log has. There it can only want memory.
     fn perform(&mut self, alloc: Global, transaction: &Transaction) -> Result<u64, CommitFault>
         requires one { HasOne self.old.state transaction.now }
+        ensures pages { self.new.pages ≡ self.old.pages }
         ensures log { self.new.log ≡ self.old.log }
         ensures front { self.new.front ≡ self.old.front }
         ensures done { Performs transaction.now result self.old self.new }
@@ -128,6 +149,7 @@ impl<L: Disk> Yard<L> {
     fn halted(&mut self, cause: HaltCause) -> CommitFault
         ensures fault { result ≡ CommitFault.Halted cause }
         ensures halt { self.new.halt ≡ Some cause }
+        ensures pages { self.new.pages ≡ self.old.pages }
         ensures state { self.new.state ≡ self.old.state }
         ensures log { self.new.log ≡ self.old.log }
         ensures front { self.new.front ≡ self.old.front }

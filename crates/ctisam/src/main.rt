@@ -4,6 +4,7 @@
 
 use ct_file::{FileDisk, OpenError, ReadSource, StoreFiles, WriteSink, make_folder, open_store};
 use ct_tool::{Cause, Ended, run_tool};
+use ct_words::{Command, command_of};
 use std::env;
 use std::process::ExitCode;
 
@@ -38,10 +39,17 @@ fn run(rt: &HostRuntime, arguments: &[String]) -> Cause {
     }
 }
 
-/// Makes the folder where it is missing, opens its files, and runs the words.
+/// Opens the folder's files and runs the words. `create` makes the folder where it is missing.
 fn run_in(rt: &HostRuntime, folder: &str, words: &[String]) -> Cause {
-    if let Err(error) = make_folder(rt, folder) {
-        return cause_of(error);
+    match command_of(words) {
+        None => return Cause::Usage,
+        Some(Command::Unbuilt) => return Cause::Unbuilt,
+        Some(Command::Create) => {
+            if let Err(error) = make_folder(rt, folder) {
+                return cause_of(error);
+            }
+        }
+        Some(Command::Exec | Command::Check) => {}
     }
     match open_store(rt, rt.alloc(), folder) {
         Ok(store) => run_over(rt, store, words),

@@ -6,5 +6,5 @@ use Rattle.ct_session.proofs.answer.serve_described.Goals as goal
 
 pub returns-in-Ok-clause-serves : goal.returns-in-Ok-clause-serves
 returns-in-Ok-clause-serves g c =
-    subst (λ (def : FileDef). Serves g.L.Disk.tells g.L.Disk.faults g.L.Disk.content c.args.yard.now (Some (create def)) (reply_of c.serve_create.result) c.serve_create.new.yard)
+    subst (λ (def : FileDef). Serves g.L.Disk.tells g.L.Disk.faults g.L.Disk.content g.L.Disk.may_leave g.L.Disk.left_since c.args.yard.now (Some (create def)) (reply_of c.serve_create.result) c.serve_create.new.yard)
     c.in-Ok.ensures c.serve_create.ensures.serves

@@ -11,6 +11,6 @@ pub returns-in-None-clause-serves : goal.returns-in-None-clause-serves
 returns-in-None-clause-serves g c =
     let form = get c.args.name.now c.args.index.now c.args.target.now in
     let none : slice_get c.args.yard.now.state 0 ≡ None = ap (λ (files : List File). slice_get files 0) (sym c.files.ensures.files) ∙ sym c.in-None.ensures.value in
-    behind g.L.Disk.tells g.L.Disk.faults g.L.Disk.content c.args.yard.now c.args.yard.now (Some form) unbuilt c.args.out.now.items c.write_plain.new.out.items
-    (unbuilt_serves g.L.Disk.tells g.L.Disk.faults g.L.Disk.content c.args.yard.now form (no_first c.args.yard.now.state (takes_target c.args.name.now c.args.index.now c.args.target.now) none))
+    behind g.L.Disk.tells g.L.Disk.faults g.L.Disk.content g.L.Disk.may_leave g.L.Disk.left_since c.args.yard.now c.args.yard.now (Some form) unbuilt c.args.out.now.items c.write_plain.new.out.items
+    (unbuilt_serves g.L.Disk.tells g.L.Disk.faults g.L.Disk.content g.L.Disk.may_leave g.L.Disk.left_since c.args.yard.now form (no_first c.args.yard.now.state (takes_target c.args.name.now c.args.index.now c.args.target.now) none))
     c.write_plain.ensures.text

@@ -5,11 +5,11 @@ use Rattle.ct_tool.proofs.block.serve_line.Goals as goal
 
 pub returns-in-Err-clause-serves : goal.returns-in-Err-clause-serves
 returns-in-Err-clause-serves g c =
-    refused_serves g.L.Disk.tells g.L.Disk.faults g.L.Disk.content c.in-Err.error c.args.yard.now (option_copied c.args.line ∷ [])
+    refused_serves g.L.Disk.tells g.L.Disk.faults g.L.Disk.content g.L.Disk.may_leave g.L.Disk.left_since c.in-Err.error c.args.yard.now (option_copied c.args.line ∷ [])
     (g.O.Sink.written c.args.out.now) (g.O.Sink.written c.make_room.new.out) c.args.replies.now.items c.make_room.new.replies.items c.in-Err.ensures.put
 
 pub returns-clause-serves : goal.returns-clause-serves
 returns-clause-serves g c =
-    line_served g.L.Disk.tells g.L.Disk.faults g.L.Disk.content c.args.yard.now c.serve.new.yard (option_copied c.args.line)
+    line_served g.L.Disk.tells g.L.Disk.faults g.L.Disk.content g.L.Disk.may_leave g.L.Disk.left_since c.args.yard.now c.serve.new.yard (option_copied c.args.line)
     (g.O.Sink.written c.args.out.now) (g.O.Sink.written c.make_room.new.out) c.args.replies.now.items c.make_room.new.replies.items c.serve.new.out.items
     c.in_default.ensures.put c.serve.ensures.answers

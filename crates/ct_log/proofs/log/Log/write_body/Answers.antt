@@ -8,10 +8,9 @@ use Rattle.ct_log.proofs.Flushes.{body_put, body_not_put, left_at, length-text, 
 use Rattle.ct_log.proofs.log.Log.write_body.Goals as goal
 
 pub returns-in_err-write_at-clause-log : goal.returns-in_err-write_at-clause-log
-returns-in_err-write_at-clause-log g c = λ tells.
+returns-in_err-write_at-clause-log g c = λ tells is.
     let old = c.args.self.now in
     let text = durable_text g.L.Disk.content old in
-    let is = c.requires.log tells in
     let long = length-text g.L.Disk.content g.L.Disk.may_leave old is in
     let place : c.end-place.result + 1 ≡ old.flow.end + 1 = omega arith in
     let left = left_at g.L.Disk.content g.L.Disk.may_leave old Idle is c.requires.stage in
@@ -21,10 +20,9 @@ returns-in_err-write_at-clause-log g c = λ tells.
     (λ b now. after b ((c.write_at.ensures.crash tells).now b now))).0
 
 pub returns-in_err-write_at-clause-text : goal.returns-in_err-write_at-clause-text
-returns-in_err-write_at-clause-text g c = λ tells.
+returns-in_err-write_at-clause-text g c = λ tells is.
     let old = c.args.self.now in
     let text = durable_text g.L.Disk.content old in
-    let is = c.requires.log tells in
     let long = length-text g.L.Disk.content g.L.Disk.may_leave old is in
     let place : c.end-place.result + 1 ≡ old.flow.end + 1 = omega arith in
     let left = left_at g.L.Disk.content g.L.Disk.may_leave old Idle is c.requires.stage in
@@ -34,10 +32,9 @@ returns-in_err-write_at-clause-text g c = λ tells.
     (λ b now. after b ((c.write_at.ensures.crash tells).now b now))).1 ∙ sym (text_failed c.from_residual.result text old.flow.waiting c.from_residual.ensures.0)
 
 pub returns-in_err-write_at-clause-any_moment : goal.returns-in_err-write_at-clause-any_moment
-returns-in_err-write_at-clause-any_moment g c = λ tells.
+returns-in_err-write_at-clause-any_moment g c = λ tells is.
     let old = c.args.self.now in
     let text = durable_text g.L.Disk.content old in
-    let is = c.requires.log tells in
     let long = length-text g.L.Disk.content g.L.Disk.may_leave old is in
     let place : c.end-place.result + 1 ≡ old.flow.end + 1 = omega arith in
     let left = left_at g.L.Disk.content g.L.Disk.may_leave old Idle is c.requires.stage in
@@ -47,10 +44,9 @@ returns-in_err-write_at-clause-any_moment g c = λ tells.
     (by_write c.write_at.result (c.end-place.result + 1) (length c.body.result.now)) (c.write_at.ensures.crash tells) (λ b here. g.met.L.Disk.only_now old.device b tells here) after
 
 pub returns-clause-log : goal.returns-clause-log
-returns-clause-log g c = λ tells.
+returns-clause-log g c = λ tells is.
     let old = c.args.self.now in
     let text = durable_text g.L.Disk.content old in
-    let is = c.requires.log tells in
     let long = length-text g.L.Disk.content g.L.Disk.may_leave old is in
     let place : c.end-place.result + 1 ≡ old.flow.end + 1 = omega arith in
     let left = left_at g.L.Disk.content g.L.Disk.may_leave old Idle is c.requires.stage in
@@ -60,10 +56,9 @@ returns-clause-log g c = λ tells.
     (c.in_ok-write_at.ensures.content tells ∙ ap (λ (l : List ℕ). overlaid (g.L.Disk.content old.device) (c.end-place.result + 1) l) c.body.ensures.body ∙ ap (λ n. overlaid (g.L.Disk.content old.device) n (chunk_body old.flow.waiting)) place) (λ b now. after b ((c.write_at.ensures.crash tells).now b now))).0
 
 pub returns-clause-text : goal.returns-clause-text
-returns-clause-text g c = λ tells.
+returns-clause-text g c = λ tells is.
     let old = c.args.self.now in
     let text = durable_text g.L.Disk.content old in
-    let is = c.requires.log tells in
     let long = length-text g.L.Disk.content g.L.Disk.may_leave old is in
     let place : c.end-place.result + 1 ≡ old.flow.end + 1 = omega arith in
     let left = left_at g.L.Disk.content g.L.Disk.may_leave old Idle is c.requires.stage in
@@ -73,10 +68,9 @@ returns-clause-text g c = λ tells.
     (c.in_ok-write_at.ensures.content tells ∙ ap (λ (l : List ℕ). overlaid (g.L.Disk.content old.device) (c.end-place.result + 1) l) c.body.ensures.body ∙ ap (λ n. overlaid (g.L.Disk.content old.device) n (chunk_body old.flow.waiting)) place) (λ b now. after b ((c.write_at.ensures.crash tells).now b now))).1
 
 pub returns-clause-any_moment : goal.returns-clause-any_moment
-returns-clause-any_moment g c = λ tells.
+returns-clause-any_moment g c = λ tells is.
     let old = c.args.self.now in
     let text = durable_text g.L.Disk.content old in
-    let is = c.requires.log tells in
     let long = length-text g.L.Disk.content g.L.Disk.may_leave old is in
     let place : c.end-place.result + 1 ≡ old.flow.end + 1 = omega arith in
     let left = left_at g.L.Disk.content g.L.Disk.may_leave old Idle is c.requires.stage in
