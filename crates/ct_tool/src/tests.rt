@@ -101,34 +101,6 @@ fn made(alloc: Global, lines: &[u8]) -> Result<Store, NoMemory> {
     again(alloc, &store, 0, b'C')
 }
 
-#[test]
-fn a_store_is_made_opened_and_checked(rt: HostRuntime) -> Result<(), Fail> {
-    let (cause, store, out) = run_on(rt.alloc(), "create shop", empty(rt.alloc()), b"")?;
-    assert_eq!(rt; cause, Cause::Done);
-    assert_eq!(rt; out.bytes(), b"OK 0\n".as_slice());
-    assert_eq!(rt; store.pages.bytes().len(), 4096);
-    let mut input = MemSource::new(rt.alloc(), b"")?;
-    let mut out = MemSink::new(rt.alloc());
-    let (cause, front, store) = run_to_front(rt.alloc(), "exec", store, &mut input, &mut out)?;
-    assert_eq!(rt; cause, Cause::Done);
-    assert_eq!(rt; front, 0);
-    assert_eq!(rt; out.bytes(), b"".as_slice());
-    let (cause, store, out) = run_on(rt.alloc(), "exec", store, LINES)?;
-    assert_eq!(rt; cause, Cause::Done);
-    assert_eq!(rt; out.bytes(), REPLIES.as_slice());
-    assert_eq!(rt; store.log.bytes().len(), 12389);
-    let (cause, store, out) = run_on(rt.alloc(), "check", store, b"")?;
-    assert_eq!(rt; cause, Cause::Done);
-    assert_eq!(rt; out.bytes(), b"OK 2 1 1\n".as_slice());
-    let (cause, _store, out) = run_on(rt.alloc(), "create shop", store, b"")?;
-    assert_eq!(rt; cause, Cause::NotEmpty);
-    assert_eq!(rt; out.bytes(), b"".as_slice());
-    let (cause, _store, out) = run_on(rt.alloc(), "exec", empty(rt.alloc()), LINES)?;
-    assert_eq!(rt; cause, Cause::Undone);
-    assert_eq!(rt; out.bytes(), b"".as_slice());
-    Ok(())
-}
-
 // runs a session over an input in pieces of so many bytes, to an output that takes one byte a call
 fn exec_in_pieces(alloc: Global, most: usize) -> Result<(Cause, MemSink), NoMemory>
     requires { 0 < most }
