@@ -15,13 +15,13 @@ abbrev pub leaf_place : ℕ → ℕ → ℕ
 leaf_place len index = 144 + len + 16 * index
 
 -- the first map page of the file
-abbrev pub first_map : List ℕ → ℕ → ℕ
-first_map page len = u64_at (map_place len) page
+abbrev pub first_map_of : List ℕ → ℕ → ℕ
+first_map_of page len = u64_at (map_place len) page
 
 -- the root of an index
-abbrev pub root : List ℕ → ℕ → ℕ → ℕ
-root page len index = u64_at (root_place len index) page
+abbrev pub root_of : List ℕ → ℕ → ℕ → ℕ
+root_of page len index = u64_at (root_place len index) page
 
 -- the first leaf of an index
-abbrev pub first_leaf : List ℕ → ℕ → ℕ → ℕ
-first_leaf page len index = u64_at (leaf_place len index) page
+abbrev pub first_leaf_of : List ℕ → ℕ → ℕ → ℕ
+first_leaf_of page len index = u64_at (leaf_place len index) page

@@ -3,7 +3,7 @@
 
 ghost use Rattle.std.specs.Prelude.{◌≡◌, ◌≤◌, ◌+◌};
 ghost use Rattle.ct_page.specs.Fields.{with_u64};
-ghost use Rattle.ct_dir.specs.DefinitionPage.{map_place, root_place, leaf_place, first_map, root, first_leaf};
+ghost use Rattle.ct_dir.specs.DefinitionPage.{map_place, root_place, leaf_place, first_map_of, root_of, first_leaf_of};
 
 use ct_page::{HEADER_SIZE, PAGE_SIZE, set_u64, u64_at};
 
@@ -21,7 +21,7 @@ fn root_place(len: usize, index: u16) -> usize
 /// The root of an index.
 pub fn root(page: &[u8; PAGE_SIZE], len: usize, index: u16) -> u64
     requires { root_place len index + 8 ≤ 4096 }
-    ensures { result ≡ root page.now len index }
+    ensures { result ≡ root_of page.now len index }
 {
     u64_at(page, root_place(len, index))
 }
@@ -30,7 +30,7 @@ pub fn root(page: &[u8; PAGE_SIZE], len: usize, index: u16) -> u64
 pub fn set_root(page: &mut [u8; PAGE_SIZE], len: usize, index: u16, root: u64)
     requires { root_place len index + 8 ≤ 4096 }
     ensures page { page.new ≡ with_u64 (root_place len index) root page.old }
-    ensures root { root page.new len index ≡ root }
+    ensures root { root_of page.new len index ≡ root }
 {
     set_u64(page, root_place(len, index), root);
 }
@@ -38,7 +38,7 @@ pub fn set_root(page: &mut [u8; PAGE_SIZE], len: usize, index: u16, root: u64)
 /// The first leaf of an index.
 pub fn first_leaf(page: &[u8; PAGE_SIZE], len: usize, index: u16) -> u64
     requires { leaf_place len index + 8 ≤ 4096 }
-    ensures { result ≡ first_leaf page.now len index }
+    ensures { result ≡ first_leaf_of page.now len index }
 {
     u64_at(page, root_place(len, index) + 8)
 }
@@ -47,7 +47,7 @@ pub fn first_leaf(page: &[u8; PAGE_SIZE], len: usize, index: u16) -> u64
 pub fn set_first_leaf(page: &mut [u8; PAGE_SIZE], len: usize, index: u16, leaf: u64)
     requires { leaf_place len index + 8 ≤ 4096 }
     ensures page { page.new ≡ with_u64 (leaf_place len index) leaf page.old }
-    ensures leaf { first_leaf page.new len index ≡ leaf }
+    ensures leaf { first_leaf_of page.new len index ≡ leaf }
 {
     set_u64(page, root_place(len, index) + 8, leaf);
 }
@@ -55,7 +55,7 @@ pub fn set_first_leaf(page: &mut [u8; PAGE_SIZE], len: usize, index: u16, leaf: 
 /// The first map page of the file.
 pub fn first_map(page: &[u8; PAGE_SIZE], len: usize) -> u64
     requires { map_place len + 8 ≤ 4096 }
-    ensures { result ≡ first_map page.now len }
+    ensures { result ≡ first_map_of page.now len }
 {
     u64_at(page, HEADER_SIZE + len)
 }
@@ -64,7 +64,7 @@ pub fn first_map(page: &[u8; PAGE_SIZE], len: usize) -> u64
 pub fn set_first_map(page: &mut [u8; PAGE_SIZE], len: usize, map: u64)
     requires { map_place len + 8 ≤ 4096 }
     ensures page { page.new ≡ with_u64 (map_place len) map page.old }
-    ensures map { first_map page.new len ≡ map }
+    ensures map { first_map_of page.new len ≡ map }
 {
     set_u64(page, HEADER_SIZE + len, map);
 }

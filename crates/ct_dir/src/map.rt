@@ -60,9 +60,9 @@ pub fn set_block(page: &mut [u8; PAGE_SIZE], at: u16, entry: MapEntry)
     ensures count { entry_count page.new ≡ max (entry_count page.old) (at + 1) }
     ensures block { block page.new at ≡ Some entry }
 {
+    let count = entry_count(page).max(at + 1);
     let place = entry_place(at);
     set_u64(page, place, entry.page);
     set_u16(page, place + 8, entry.used);
-    let count = entry_count(page).max(at + 1);
     set_u16(page, COUNT, count);
 }

@@ -135,7 +135,7 @@ piece n at page part is =
     ap (λ (l : List ℕ). l ++ drop (at + n) page) is ∙ ap (λ (l : List ℕ). take n (drop at page) ++ l) (sym (drop-drop n at page)) ∙ take-append-drop n (drop at page)
 
 -- the fields of a header that was read
-record HasFields (page : List ℕ) (header : Header) : Type 0 where
+pub record HasFields (page : List ℕ) (header : Header) : Type 0 where
   pub kind : kind_of (get_or page 0 0) ≡ Some header.kind
   pub file : u16_at 2 page ≡ header.file
   pub index : u16_at 4 page ≡ header.index
@@ -159,7 +159,7 @@ fields_by_kind page header (Some kind) is told =
       key_len = ap (λ (h : Header). h.key_len) same;
     }
 
-fields_are : (page : List ℕ) (header : Header) → header_of page ≡ Some header → HasFields page header
+pub fields_are : (page : List ℕ) (header : Header) → header_of page ≡ Some header → HasFields page header
 fields_are page header told = fields_by_kind page header (kind_of (get_or page 0 0)) refl told
 
 -- the pieces of a header are the page

@@ -1,0 +1,5 @@
+pub mod Rows
+pub mod Packing
+pub mod Decode
+pub mod Places
+pub mod Steps
