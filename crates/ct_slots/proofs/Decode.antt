@@ -10,14 +10,14 @@ use Rattle.ct_page.specs.Fields.{u16_at, u64_at}
 use Rattle.ct_page.specs.Headers.{header_bytes, header_of, has_fields}
 use Rattle.ct_page.proofs.HeaderLemmas.{HasFields, fields_are, written_is_read}
 use Rattle.ct_slots.specs.Pages.{RecordPage, Fits, images_len, rows_use, rise_from, entry_bytes, entries, images, record_header, page_of, row_on, rows_from, rows_on, shown_on, IsRecordPage}
-use Rattle.ct_slots.proofs.Rows.{Rises, rises, rows_use-is}
+use Rattle.ct_slots.proofs.Rows.{Rises, rises, rows_use-is, images_len-cons}
 use Rattle.ct_slots.proofs.Packing.{length-entries, length-images}
 
 -- the numbers of an entry that stands at a place
-pub record Reads (at : ℕ) (page : List ℕ) (num offset len : ℕ) (rest : List ℕ) : Type 0 where
-  pub num : u16_at at page ≡ num
-  pub offset : u16_at (at + 2) page ≡ offset
-  pub len : u16_at (at + 4) page ≡ len
+pub record Reads (at : ℕ) (page : List ℕ) (n o l : ℕ) (rest : List ℕ) : Type 0 where
+  pub num : u16_at at page ≡ n
+  pub offset : u16_at (at + 2) page ≡ o
+  pub len : u16_at (at + 4) page ≡ l
   pub zeros : u16_at (at + 6) page ≡ 0
   pub next : drop (at + 8) page ≡ rest
 
@@ -37,10 +37,13 @@ image_there front inner image behind page offset is at =
     let grouped : page ≡ (front ++ inner) ++ (image ++ behind) = is ∙ ap (λ (l : List ℕ). l ++ behind) (sym (append_assoc front inner image)) ∙ append_assoc (front ++ inner) image behind in
     ap (λ (l : List ℕ). take (length image) (drop offset l)) grouped ∙ ap (take (length image)) (drop_at (front ++ inner) (image ++ behind) offset (length-append front inner ∙ at)) ∙ take_at image behind (length image) refl
 
+abbrev row_of : ℕ → List ℕ → Row
+row_of num image = record { num = num; image = image }
+
 same_row : (row : Row) (num len offset : ℕ) (page : List ℕ) → num ≡ row.num → len ≡ length row.image → take (length row.image) (drop offset page) ≡ row.image → (at : ℕ) → offset ≡ at → record { num = num; image = take len (drop at page) } ≡ row
 same_row row num len offset page n l i at o =
     let e : take len (drop at page) ≡ row.image = ap (λ k. take len (drop k page)) (sym o) ∙ ap (λ k. take k (drop offset page)) l ∙ i in
-    cc
+    ap (λ k. row_of k (take len (drop at page))) n ∙ ap (row_of row.num) e
 
 -- the records that entries and images tell
 pub decode : (low at end : ℕ) (rows : List Row) (page rest front behind : List ℕ) → drop at page ≡ entries end rows ++ rest → page ≡ front ++ images rows ++ behind → length front + images_len rows ≡ end → end ≤ 4096 → rise_from low rows ≡ true
@@ -51,11 +54,11 @@ decode low at end (row ∷ rows) page rest front behind entry image ends small u
     let len = length row.image in
     let r = rises low row rows up in
     let here : drop at page ≡ entry_bytes row.num (end - len) len ++ (entries (end - len) rows ++ rest) = entry in
-    let told = reads at page row.num (end - len) len (entries (end - len) rows ++ rest) here (omega (arith, r.below)) (omega arith) (omega arith) in
-    let before : length front + length (images rows) ≡ end - len = omega (arith, length-images rows) in
+    let told = reads at page row.num (end - len) len (entries (end - len) rows ++ rest) here (omega (arith, r.below)) (omega arith) (omega (arith, images_len-cons row rows)) in
+    let before : length front + length (images rows) ≡ end - len = omega (arith, length-images rows, images_len-cons row rows) in
     let first = same_row row (u16_at at page) (u16_at (at + 4) page) (end - len) page told.num told.len (image_there front (images rows) row.image behind page (end - len) image before) (u16_at (at + 2) page) (sym told.offset) in
     let inner : page ≡ front ++ images rows ++ (row.image ++ behind) = image ∙ ap (λ (l : List ℕ). l ++ behind) (sym (append_assoc front (images rows) row.image)) ∙ append_assoc (front ++ images rows) row.image behind in
-    let others = decode (row.num + 1) (at + 8) (end - len) rows page rest front (row.image ++ behind) told.next inner (omega arith) (omega arith) r.rest in
+    let others = decode (row.num + 1) (at + 8) (end - len) rows page rest front (row.image ++ behind) told.next inner (omega (arith, images_len-cons row rows)) (omega arith) r.rest in
     ap (λ (x : Row). x ∷ rows_from (at + 8) (length rows) page) first ∙ ap (λ (l : List Row). row ∷ l) others
 
 -- the header of what fits has fields of their widths
@@ -80,7 +83,7 @@ page_of-parts shown =
 pub length-body_of : (shown : RecordPage) → Fits shown → length (body_of shown) ≡ 3968
 unfolding body_of
 length-body_of shown fits =
-    omega (arith, fits.room, rows_use-is shown.rows, length-append (entries 4096 shown.rows) (replicate (3968 - rows_use shown.rows) 0 ++ images shown.rows), length-append (replicate (3968 - rows_use shown.rows) 0) (images shown.rows), length-entries 4096 shown.rows, length-replicate (3968 - rows_use shown.rows) 0, length-images shown.rows)
+    omega (arith, fits.room, rows_use-is shown.rows, length-append (entries 4096 shown.rows) (replicate (3968 - rows_use shown.rows) 0 ++ images shown.rows), length-append (replicate (3968 - rows_use shown.rows) 0) (images shown.rows), length-entries 4096 shown.rows, length-replicate {A = ℕ} (3968 - rows_use shown.rows) 0, length-images shown.rows)
 
 pub length-page_of : (shown : RecordPage) → Fits shown → length (page_of shown) ≡ 4096
 length-page_of shown fits =
@@ -95,6 +98,9 @@ header_on shown fits =
 pub entries_on : (shown : RecordPage) → drop 128 (page_of shown) ≡ body_of shown
 entries_on shown = ap (drop 128) (page_of-parts shown)
 
+abbrev shown_of : ℕ → ℕ → List Row → RecordPage
+shown_of file position rows = record { file = file; position = position; rows = rows }
+
 -- such a page tells what it is made of
 pub shown_on-page_of : (shown : RecordPage) → Fits shown → shown_on (page_of shown) ≡ shown
 unfolding body_of
@@ -105,11 +111,11 @@ shown_on-page_of shown fits =
     let head = header_on shown fits in
     let front = h ++ (entries 4096 shown.rows ++ zeros) in
     let split : page ≡ front ++ images shown.rows ++ [] = page_of-parts shown ∙ ap (λ (l : List ℕ). h ++ l) (sym (append_assoc (entries 4096 shown.rows) zeros (images shown.rows))) ∙ sym (append_assoc h (entries 4096 shown.rows ++ zeros) (images shown.rows)) ∙ sym (append-nil (front ++ images shown.rows)) in
-    let ends : length front + images_len shown.rows ≡ 4096 = omega (arith, fits.room, rows_use-is shown.rows, length-append h (entries 4096 shown.rows ++ zeros), length-append (entries 4096 shown.rows) zeros, length-entries 4096 shown.rows, length-replicate (3968 - rows_use shown.rows) 0) in
+    let ends : length front + images_len shown.rows ≡ 4096 = omega (arith, fits.room, rows_use-is shown.rows, length-append h (entries 4096 shown.rows ++ zeros), length-append (entries 4096 shown.rows) zeros, length-entries 4096 shown.rows, length-replicate {A = ℕ} (3968 - rows_use shown.rows) 0) in
     let rows : rows_on page ≡ shown.rows = ap (λ n. rows_from 128 n page) head.count ∙ decode 0 128 4096 shown.rows page (zeros ++ images shown.rows) front [] (entries_on shown) split ends (omega arith) fits.rising in
     let file : u16_at 2 page ≡ shown.file = head.file in
     let position : u64_at 8 page ≡ shown.position = head.position in
-    cc
+    ap (λ n. shown_of n (u64_at 8 page) (rows_on page)) file ∙ ap (λ n. shown_of shown.file n (rows_on page)) position ∙ ap (shown_of shown.file shown.position) rows
 
 -- a page that was made so is a record page
 pub made_page : (page : List ℕ) (shown : RecordPage) → Fits shown → page ≡ page_of shown → IsRecordPage page

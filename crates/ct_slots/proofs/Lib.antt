@@ -3,3 +3,7 @@ pub mod Packing
 pub mod Decode
 pub mod Places
 pub mod Steps
+pub mod Made
+pub mod Cuts
+pub mod Edits
+pub mod Grammar

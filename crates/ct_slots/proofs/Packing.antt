@@ -6,6 +6,7 @@ use Rattle.std.proofs.lemmas.Nat.{from_le_bytes-to_le_bytes_2}
 use Rattle.ct_definitions.specs.declared.store.Row.{Row}
 use Rattle.ct_slots.specs.Pages.{images_len, entry_bytes, entries, images}
 use Rattle.ct_slots.specs.Checks.{packed}
+use Rattle.ct_slots.proofs.Rows.{images_len-cons}
 
 pub length-entries : (end : ℕ) (rows : List Row) → length (entries end rows) ≡ 8 * length rows
 unfolding entries
@@ -15,15 +16,15 @@ length-entries end (row ∷ rows) = omega (arith, length-entries (end - length r
 pub length-images : (rows : List Row) → length (images rows) ≡ images_len rows
 unfolding images
 length-images [] = refl
-length-images (row ∷ rows) = omega (arith, length-images rows, length-append (images rows) row.image)
+length-images (row ∷ rows) = omega (arith, length-images rows, length-append (images rows) row.image, images_len-cons row rows)
 
 -- the entries of records and further ones
 pub entries-append : (end : ℕ) (a b : List Row) → entries end (a ++ b) ≡ entries end a ++ entries (end - images_len a) b
 unfolding entries
-entries-append end [] b = refl
+entries-append end [] b = ap (λ n. entries n b) (omega arith)
 entries-append end (row ∷ a) b =
     let first = entry_bytes row.num (end - length row.image) (length row.image) in
-    let less : end - length row.image - images_len a ≡ end - images_len (row ∷ a) = omega arith in
+    let less : end - length row.image - images_len a ≡ end - images_len (row ∷ a) = omega (arith, images_len-cons row a) in
     ap (λ (l : List ℕ). first ++ l) (entries-append (end - length row.image) a b ∙ ap (λ n. entries (end - length row.image) a ++ entries n b) less)
 
 -- the images of records and further ones
@@ -43,5 +44,5 @@ pub packed-entries : (end from : ℕ) (rows : List Row) (rest : List ℕ) → im
 unfolding packed entries
 packed-entries end from [] rest small = refl
 packed-entries end from (row ∷ rows) rest small =
-    packed-entry end (length rows) row.num (from - length row.image) (length row.image) (entries (from - length row.image) rows ++ rest) (omega arith)
-    ∙ ap (λ (l : List ℕ). entry_bytes row.num (end - length row.image) (length row.image) ++ l) (packed-entries (end - length row.image) (from - length row.image) rows rest (omega arith))
+    packed-entry end (length rows) row.num (from - length row.image) (length row.image) (entries (from - length row.image) rows ++ rest) (omega (arith, images_len-cons row rows))
+    ∙ ap (λ (l : List ℕ). entry_bytes row.num (end - length row.image) (length row.image) ++ l) (packed-entries (end - length row.image) (from - length row.image) rows rest (omega (arith, images_len-cons row rows)))

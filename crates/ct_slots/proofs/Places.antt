@@ -1,15 +1,16 @@
 -- Where numbers, entries and images stand on a record page.
-use Rattle.std.proofs.Common.{◌≡◌, ◌≢◌, ℕ, zero, suc, ◌+◌, ◌-◌, ◌*◌, ◌^◌, ◌<◌, ◌≤◌, Bool, true, false, ◌&&◌, cond, eqb, ltb, List, [], ◌∷◌, ◌++◌, length, take, drop, get_or, Option, Some, None, replicate, refl, sym, ap, ◌∙◌, arith, append_assoc}
+use Rattle.std.proofs.Common.{◌≡◌, ◌≢◌, ℕ, zero, suc, ◌+◌, ◌-◌, ◌*◌, ◌^◌, ◌<◌, ◌≤◌, Bool, true, false, ◌&&◌, cond, eqb, ltb, List, [], ◌∷◌, ◌++◌, length, take, drop, get_or, Option, Some, None, replicate, refl, sym, ap, ◌∙◌, subst, arith, append_assoc}
 use Rattle.std.specs.Prelude.{slice_get, option_map}
 use Rattle.std.proofs.lemmas.Bool.{ltb-true, lt-ltb, eqb-true, eqb-false}
 use Rattle.std.proofs.lemmas.Bool.Decides.{nat_tests}
-use Rattle.std.proofs.lemmas.List.{length-append, length-take, length-drop, take-append-drop, take_all, drop_all}
+use Rattle.std.proofs.lemmas.List.{length-append, length-take, length-take-le, length-drop, take-append-drop, take_at, drop_at, take_all, drop_all}
 use Rattle.ct_definitions.specs.declared.store.Row.{Row}
 use Rattle.ct_definitions.specs.Room.{image_at}
+use Rattle.ct_definitions.specs.Changes.{with_row, without_row}
 use Rattle.ct_page.specs.Fields.{u16_at, u64_at}
-use Rattle.ct_slots.specs.Pages.{RecordPage, Fits, images_len, rows_use, rise_from, entry_bytes, entries, images, page_of, row_on, rows_from, rows_on, shown_on, IsRecordPage}
+use Rattle.ct_slots.specs.Pages.{RecordPage, Fits, with_rows, with_slot, images_len, rows_use, rise_from, entry_bytes, entries, images, page_of, row_on, rows_from, rows_on, shown_on, IsRecordPage}
 use Rattle.ct_slots.specs.Checks.{AllBelow, AllFrom, IsPlace}
-use Rattle.ct_slots.proofs.Rows.{Rises, rises, rows_use-is, all_from, from_lower, rise_drop, images_len-append, image_at-between, image_at-at}
+use Rattle.ct_slots.proofs.Rows.{Rises, rises, rows_use-is, images_len-cons, all_from, from_lower, rise_drop, images_len-append, image_at-between, image_at-at, with_row-between, without_row-between, without_row-at}
 use Rattle.ct_slots.proofs.Decode.{Reads, reads, body_of, entries_on}
 
 -- as many records as entries
@@ -114,22 +115,24 @@ entry_reads zero low at end (r ∷ rows) row page rest entry is room small up =
     let e : r ≡ row = cc in
     let rise = rises low r rows up in
     let len = length r.image in
+    let c = images_len-cons r rows in
     let told = reads at page r.num (end - len) len (entries (end - len) rows ++ rest) entry (omega (arith, rise.below)) (omega arith) (omega arith) in
     let p : at + 8 * 0 ≡ at = omega arith in
     record {
       num = ap (λ q. u16_at q page) p ∙ told.num ∙ ap (λ (x : Row). x.num) e;
-      offset = (let o : u16_at (at + 8 * 0 + 2) page ≡ end - len = ap (λ q. u16_at (q + 2) page) p ∙ told.offset in omega arith);
+      offset = (let o : u16_at (at + 8 * 0 + 2) page ≡ end - len = ap (λ q. u16_at (q + 2) page) p ∙ told.offset in omega (arith, images_len-cons r []));
       len = ap (λ q. u16_at (q + 4) page) p ∙ told.len ∙ ap (λ (x : Row). length x.image) e;
     }
 entry_reads (suc k) low at end (r ∷ rows) row page rest entry is room small up =
     let rise = rises low r rows up in
     let len = length r.image in
+    let c = images_len-cons r rows in
     let told = reads at page r.num (end - len) len (entries (end - len) rows ++ rest) entry (omega (arith, rise.below)) (omega arith) (omega arith) in
     let inner = entry_reads k (r.num + 1) (at + 8) (end - len) rows row page rest told.next is (omega arith) (omega arith) rise.rest in
     let p = next_place at k in
     record {
       num = sym (ap (λ q. u16_at q page) p) ∙ inner.num;
-      offset = (let o : u16_at (at + 8 + 8 * k + 2) page ≡ u16_at (at + 8 * suc k + 2) page = ap (λ q. u16_at (q + 2) page) p in omega (arith, inner.offset));
+      offset = (let o : u16_at (at + 8 + 8 * k + 2) page ≡ u16_at (at + 8 * suc k + 2) page = ap (λ q. u16_at (q + 2) page) p in omega (arith, inner.offset, images_len-cons r (take (suc k) rows)));
       len = sym (ap (λ q. u16_at (q + 4) page) p) ∙ inner.len;
     }
 
@@ -153,14 +156,16 @@ entry_at_place page k is_page within = entry_on page k (row_on (128 + 8 * k) pag
 pub offset_at_place : (page : List ℕ) (k : ℕ) → IsRecordPage page → k < length (rows_on page) → u16_at (128 + 8 * k + 2) page ≡ 4096 - images_len (take (k + 1) (rows_on page))
 offset_at_place page k is_page within =
     let e = entry_at_place page k is_page within in
-    let t : images_len (take (suc k) (rows_on page)) ≡ images_len (take (k + 1) (rows_on page)) = ap (λ n. images_len (take n (rows_on page))) (omega arith) in
+    let n : suc k ≡ k + 1 = omega arith in
+    let t : images_len (take (suc k) (rows_on page)) ≡ images_len (take (k + 1) (rows_on page)) = ap (λ n. images_len (take n (rows_on page))) n in
     omega (arith, e.offset)
 
 -- one image more
 pub len_more : (k : ℕ) (rows : List Row) (row : Row) → slice_get rows k ≡ Some row → images_len (take (suc k) rows) ≡ images_len (take k rows) + length row.image
 len_more k [] row is = absurd cc
-len_more zero (r ∷ rows) row is = let e : r ≡ row = cc in let l = ap (λ (x : Row). length x.image) e in omega arith
-len_more (suc k) (r ∷ rows) row is = omega (arith, len_more k rows row is)
+len_more zero (r ∷ rows) row is = let e : r ≡ row = cc in let l = ap (λ (x : Row). length x.image) e in let c = images_len-cons r [] in omega arith
+len_more (suc k) (r ∷ rows) row is =
+    omega (arith, len_more k rows row is, images_len-cons r (take (suc k) rows), images_len-cons r (take k rows))
 
 -- an image and those in front of it end within the page
 pub image_within : (page : List ℕ) (k : ℕ) → IsRecordPage page → k < length (rows_on page) → u16_at (128 + 8 * k + 2) page + u16_at (128 + 8 * k + 4) page ≤ 4096
@@ -207,15 +212,15 @@ pub absent : (page : List ℕ) (num place : ℕ) → IsRecordPage page → IsPla
 absent page num place is_page is_place test =
     let rows = rows_on page in
     above (drop place rows) num (rise_drop place 0 rows is_page.fits.rising) is_place.from (λ row first same.
-        let there : slice_get rows place ≡ Some row = sym (first_behind place rows) ∙ first in
-        let within : place < length rows = there_within place rows row there in
-        let other = both_false (ltb place (length rows)) (eqb (u16_at (128 + 8 * place) page) num) (lt-ltb place (length rows) within) test in
-        eqb-false (u16_at (128 + 8 * place) page) num other ((entry_on page place row is_page there).num ∙ same))
+    let there : slice_get rows place ≡ Some row = sym (first_behind place rows) ∙ first in
+    let within : place < length rows = there_within place rows row there in
+    let other = both_false (ltb place (length rows)) (eqb (u16_at (128 + 8 * place) page) num) (lt-ltb place (length rows) within) test in
+    eqb-false (u16_at (128 + 8 * place) page) num other ((entry_on page place row is_page there).num ∙ same))
 
 -- the record of the number that was looked for
-pub record IsThere (page : List ℕ) (num place : ℕ) : Type 0 where
+pub record IsThere (page : List ℕ) (n place : ℕ) : Type 0 where
   pub within : place < length (rows_on page)
-  pub num : u16_at (128 + 8 * place) page ≡ num
+  pub num : u16_at (128 + 8 * place) page ≡ n
   pub split : rows_on page ≡ take place (rows_on page) ++ row_on (128 + 8 * place) page ∷ drop (suc place) (rows_on page)
 
 pub present : (page : List ℕ) (num place : ℕ) → (ltb place (length (rows_on page)) && eqb (u16_at (128 + 8 * place) page) num) ≡ true → IsThere page num place
@@ -235,3 +240,61 @@ image_absent page num place is_place above =
 pub image_present : (page : List ℕ) (num place : ℕ) → IsPlace num place (rows_on page) → IsThere page num place → image_at num (rows_on page) ≡ Some ((row_on (128 + 8 * place) page).image)
 image_present page num place is_place there =
     ap (image_at num) there.split ∙ image_at-at num (take place (rows_on page)) (row_on (128 + 8 * place) page) (drop (suc place) (rows_on page)) is_place.below there.num
+
+-- where the images of all records begin
+pub lowest : (low count : ℕ) (rows : List Row) → low ≡ 4096 - images_len (take count rows) → count ≡ length rows → low ≡ 4096 - images_len rows
+lowest low count rows is counts = is ∙ ap (λ (r : List Row). 4096 - images_len r) (take_all count rows (omega arith))
+
+-- the images in front of a record, its own, and those behind it
+pub lens_at : (k : ℕ) (rows : List Row) (row : Row) → slice_get rows k ≡ Some row → images_len rows ≡ images_len (take k rows) + length row.image + images_len (drop (suc k) rows)
+lens_at k rows row is =
+    let s = ap images_len (split_at k rows row is) in
+    omega (arith, images_len-append (take k rows) (row ∷ drop (suc k) rows), images_len-cons row (drop (suc k) rows))
+
+-- the records without the one that was found
+pub without_present : (page : List ℕ) (num place : ℕ) → IsPlace num place (rows_on page) → IsThere page num place → without_row num (rows_on page) ≡ take place (rows_on page) ++ drop (suc place) (rows_on page)
+without_present page num place is_place there =
+    ap (without_row num) there.split ∙ without_row-at num (take place (rows_on page)) (row_on (128 + 8 * place) page) (drop (suc place) (rows_on page)) is_place.below there.num
+
+-- the records without one that is not there
+pub without_absent : (rows : List Row) (num place : ℕ) → IsPlace num place rows → AllFrom (num + 1) (drop place rows) → without_row num rows ≡ rows
+without_absent rows num place is_place above =
+    ap (without_row num) (sym (take-append-drop place rows)) ∙ without_row-between num (take place rows) (drop place rows) is_place.below above ∙ take-append-drop place rows
+
+-- the place of a number among the records that are left
+pub record HasPlace (num place : ℕ) (rows : List Row) : Type 0 where
+  pub is_place : IsPlace num place rows
+  pub above : AllFrom (num + 1) (drop place rows)
+
+place_between : (num place : ℕ) (a b : List Row) → length a ≡ place → AllBelow num a → AllFrom (num + 1) b → HasPlace num place (a ++ b)
+place_between num place a b size below above =
+    let front : take place (a ++ b) ≡ a = take_at a b place size in
+    let behind : drop place (a ++ b) ≡ b = drop_at a b place size in
+    record {
+      is_place = record {
+        within = omega (arith, length-append a b);
+        below = (let P : List Row → Type 0 = λ r. AllBelow num r in subst P (sym front) below);
+        from = (let P : List Row → Type 0 = λ r. AllFrom num r in subst P (sym behind) (from_lower (num + 1) num b (omega arith) above));
+      };
+      above = (let P : List Row → Type 0 = λ r. AllFrom (num + 1) r in subst P (sym behind) above);
+    }
+
+pub place_left : (page : List ℕ) (num place : ℕ) → IsRecordPage page → IsPlace num place (rows_on page) → IsThere page num place → HasPlace num place (without_row num (rows_on page))
+place_left page num place is_page is_place there =
+    let rows = rows_on page in
+    let row = row_on (128 + 8 * place) page in
+    let a = take place rows in
+    let b = drop (suc place) rows in
+    let up : rise_from 0 (a ++ row ∷ b) ≡ true = ap (rise_from 0) (sym there.split) ∙ is_page.fits.rising in
+    let up_behind : rise_from 0 (row ∷ b) ≡ true = ap (rise_from 0) (sym (drop_at a (row ∷ b) place (length-take-le place rows is_place.within))) ∙ rise_drop place 0 (a ++ row ∷ b) up in
+    let r = rises 0 row b up_behind in
+    let above : AllFrom (num + 1) b = from_lower (row.num + 1) (num + 1) b (omega (arith, there.num)) (all_from (row.num + 1) b r.rest) in
+    let P : List Row → Type 0 = λ l. HasPlace num place l in
+    subst P (sym (without_present page num place is_place there)) (place_between num place a b (length-take-le place rows is_place.within) is_place.below above)
+
+-- what is shown with one record more is what is shown with the image under its number
+pub shown_set : (shown left : RecordPage) (num place : ℕ) (image : List ℕ) → left ≡ with_rows (without_row num shown.rows) shown → HasPlace num place left.rows → with_rows (take place left.rows ++ record { num = num; image = image } ∷ drop place left.rows) left ≡ with_rows (with_slot num image shown.rows) shown
+shown_set shown left num place image is has =
+    let new : Row = record { num = num; image = image } in
+    let more : with_row new left.rows ≡ take place left.rows ++ new ∷ drop place left.rows = ap (with_row new) (sym (take-append-drop place left.rows)) ∙ with_row-between (take place left.rows) new (drop place left.rows) has.is_place.below has.above in
+    ap (λ (r : List Row). with_rows r left) (sym more) ∙ ap (λ (s : RecordPage). with_rows (with_row new s.rows) s) is

@@ -1,28 +1,35 @@
 -- Records by rising number: where one stands, with one more and without one.
-use Rattle.std.proofs.Common.{◌≡◌, ℕ, zero, suc, ◌+◌, ◌-◌, ◌*◌, ◌<◌, ◌≤◌, ◌⊎◌, inl, inr, Bool, true, false, cond, ◌&&◌, nat_le, nat_lt, eqb, ltb, leb, List, [], ◌∷◌, ◌++◌, length, take, drop, get_or, Option, Some, None, refl, sym, ap, ◌∙◌, subst, arith, sum_by}
+use Rattle.std.proofs.Common.{◌≡◌, ℕ, zero, suc, ◌+◌, ◌-◌, ◌*◌, ◌<◌, ◌≤◌, ◌⊎◌, inl, inr, Bool, true, false, cond, ◌&&◌, nat_le, nat_lt, eqb, ltb, leb, List, [], ◌∷◌, ◌++◌, length, take, drop, get_or, Option, Some, None, refl, sym, ap, ◌∙◌, subst, arith, sum_by, zero-add}
 use Rattle.std.specs.Prelude.{slice_get, remove, find, option_map}
 use Rattle.std.proofs.lemmas.Bool.{ltb-true, le-ltb, lt-ltb, eqb-true, eq-eqb, ne_eqb}
 use Rattle.std.proofs.lemmas.Bool.Decides.{nat_tests}
 use Rattle.std.proofs.lemmas.List.{length-append, length-take, take-append-drop}
-use Rattle.std.proofs.lemmas.List.Sums.{sum_by-append}
+use Rattle.std.proofs.lemmas.List.Sums.{sum_by-cons}
 use Rattle.ct_definitions.specs.declared.store.Row.{Row}
 use Rattle.ct_definitions.specs.Changes.{with_row, without_row}
 use Rattle.ct_definitions.specs.Room.{row_at, image_at, use_of}
 use Rattle.ct_slots.specs.Pages.{images_len, rows_use, rise_from, with_slot}
 use Rattle.ct_slots.specs.Checks.{AllBelow, AllFrom, IsPlace}
 
+-- one record and further ones
+pub images_len-cons : (row : Row) (rows : List Row) → images_len (row ∷ rows) ≡ length row.image + images_len rows
+images_len-cons row rows = sum_by-cons (λ (r : Row). length r.image) row rows
+
+pub rows_use-cons : (row : Row) (rows : List Row) → rows_use (row ∷ rows) ≡ length row.image + 8 + rows_use rows
+rows_use-cons row rows = sum_by-cons (λ (r : Row). use_of r.image) row rows
+
 -- the use of records: 8 bytes for each, and their images
 pub rows_use-is : (rows : List Row) → rows_use rows ≡ images_len rows + 8 * length rows
 rows_use-is [] = refl
-rows_use-is (row ∷ rows) = omega (arith, rows_use-is rows)
+rows_use-is (row ∷ rows) = omega (arith, rows_use-is rows, images_len-cons row rows, rows_use-cons row rows)
 
 pub images_len-append : (a b : List Row) → images_len (a ++ b) ≡ images_len a + images_len b
-images_len-append [] b = omega arith
-images_len-append (row ∷ a) b = omega (arith, images_len-append a b)
+images_len-append [] b = sym (zero-add (images_len b))
+images_len-append (row ∷ a) b = omega (arith, images_len-append a b, images_len-cons row a, images_len-cons row (a ++ b))
 
 pub rows_use-append : (a b : List Row) → rows_use (a ++ b) ≡ rows_use a + rows_use b
-rows_use-append [] b = omega arith
-rows_use-append (row ∷ a) b = omega (arith, rows_use-append a b)
+rows_use-append [] b = sym (zero-add (rows_use b))
+rows_use-append (row ∷ a) b = omega (arith, rows_use-append a b, rows_use-cons row a, rows_use-cons row (a ++ b))
 
 -- the parts of a test of a record's number
 pub record Rises (low : ℕ) (row : Row) (rows : List Row) : Type 0 where

@@ -5,7 +5,7 @@ ghost use Rattle.std.specs.List.{remove};
 ghost use Rattle.ct_definitions.specs.Changes.{without_row, with_row};
 ghost use Rattle.ct_definitions.specs.Room.{use_of};
 ghost use Rattle.ct_slots.specs.Pages.{IsRecordPage, shown_on, rows_on, page_of, with_rows, with_slot, rows_use};
-ghost use Rattle.ct_slots.specs.Checks.{IsPlace};
+ghost use Rattle.ct_slots.specs.Checks.{IsPlace, AllFrom};
 
 use crate::find::{ENTRY_SIZE, count_of, end_of, is_at, len_at, place_of};
 use crate::moves::{close_entry, close_image, open_entry, open_image, pack};
@@ -22,8 +22,10 @@ pub(crate) fn set(page: &mut [u8; PAGE_SIZE], num: u16, image: &[u8])
     let place = place_of(page, num);
     if is_at(page, place, num) {
         take_out(page, place);
+        put_in(page, place, num, image);
+    } else {
+        put_in(page, place, num, image);
     }
-    put_in(page, place, num, image);
 }
 
 /// Takes the record of a number out, where there is one.
@@ -43,7 +45,7 @@ fn put_in(page: &mut [u8; PAGE_SIZE], place: usize, num: u16, image: &[u8])
     requires page { IsRecordPage page.old }
     requires num { num < 128 }
     requires place { IsPlace num place (rows_on page.old) }
-    requires new { IsPlace (num + 1) place (rows_on page.old) }
+    requires new { AllFrom (num + 1) (drop place (rows_on page.old)) }
     requires room { use_of image.now + rows_use (rows_on page.old) ≤ 3968 }
     ensures page { IsRecordPage page.new }
     ensures shown { shown_on page.new ≡ with_rows (take place (rows_on page.old) ++ record { num = num; image = image.now } ∷ drop place (rows_on page.old)) (shown_on page.old) }

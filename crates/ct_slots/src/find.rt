@@ -1,6 +1,6 @@
 //! Where a number's entry and its image stand on a record page.
 
-ghost use Rattle.std.specs.Prelude.{◌≡◌, ◌<◌, ◌≤◌, ◌+◌, ◌*◌, ◌-◌, ◌==◌, ◌&&◌, length, take, slice_get, IfSome, IsTrue, nat_lt, Some};
+ghost use Rattle.std.specs.Prelude.{◌≡◌, ◌<◌, ◌≤◌, ◌+◌, ◌*◌, ◌-◌, ◌==◌, ◌&&◌, length, take, drop, slice_get, IfSome, IsTrue, nat_lt, Some};
 ghost use Rattle.ct_definitions.specs.Room.{image_at};
 ghost use Rattle.ct_page.specs.Fields.{u16_at};
 ghost use Rattle.ct_slots.specs.Pages.{IsRecordPage, rows_on, images_len, rows_use};
@@ -79,6 +79,14 @@ pub(crate) fn image_of(page: &[u8; PAGE_SIZE], place: usize) -> &[u8]
 {
     let offset = offset_at(page, place);
     let len = len_at(page, place);
+    part(page, offset, len)
+}
+
+/// So many bytes from a place on.
+fn part(page: &[u8; PAGE_SIZE], offset: usize, len: usize) -> &[u8]
+    requires { offset + len ≤ 4096 }
+    ensures { result.now ≡ take len (drop offset page.now) }
+{
     &page[offset..offset + len]
 }
 

@@ -1,6 +1,7 @@
 //! Bytes moved within a page: a gap opened in it for an image or an entry, and closed again.
 
 ghost use Rattle.std.specs.Prelude.{◌≡◌, ◌≤◌, ◌+◌, ◌-◌, ◌*◌, ◌++◌, length, take, drop, replicate};
+ghost use Rattle.ct_page.specs.Fields.{with_bytes};
 ghost use Rattle.ct_slots.specs.Pages.{entry_bytes};
 ghost use Rattle.ct_slots.specs.Checks.{packed};
 
@@ -35,10 +36,18 @@ pub(crate) fn open_entry(page: &mut [u8; PAGE_SIZE], at: usize, end: usize, num:
     ensures { page.new ≡ take at page.old ++ entry_bytes num 0 len ++ take (end - at) (drop at page.old) ++ drop (end + 8) page.old }
 {
     page.copy_within(at..end, at + ENTRY_SIZE);
-    set_u16(page, at, num);
-    set_u16(page, at + 2, 0);
-    set_u16(page, at + 4, len);
-    set_u16(page, at + 6, 0);
+    write_entry(page, at, num, len);
+}
+
+/// Writes an entry at a place, with offset 0.
+fn write_entry(page: &mut [u8; PAGE_SIZE], at: usize, num: u16, len: u16)
+    requires { at + 8 ≤ 4096 }
+    ensures { page.new ≡ with_bytes at (entry_bytes num 0 len) page.old }
+{
+    let num = num.to_le_bytes();
+    let len = len.to_le_bytes();
+    let entry = [num[0], num[1], 0, 0, len[0], len[1], 0, 0];
+    page[at..at + ENTRY_SIZE].copy_from_slice(&entry);
 }
 
 /// Takes the entry at a place out: what stands behind it up to `end` moves down, and zeros follow it.
@@ -58,11 +67,11 @@ pub(crate) fn pack(page: &mut [u8; PAGE_SIZE], at: usize, count: usize, end: usi
     requires end { end ≤ 4096 }
     ensures { page.new ≡ take at page.old ++ packed end count (drop at page.old) ++ drop (at + 8 * count) page.old }
 {
-    let mut end = end;
+    let mut image_end = end;
     for place in 0..count {
         let entry = at + ENTRY_SIZE * place;
         // The images fit in front of `end`, so this does not saturate.
-        end = end.saturating_sub(u16_at(page, entry + 4) as usize);
-        set_u16(page, entry + 2, end as u16);
+        image_end = image_end.saturating_sub(u16_at(page, entry + 4) as usize);
+        set_u16(page, entry + 2, image_end as u16);
     }
 }
