@@ -1,8 +1,8 @@
 -- Numbers that are written and read again, and what a write leaves beside them.
-use Rattle.std.proofs.Common.{◌≡◌, ℕ, zero, suc, [], ◌∷◌, ◌+◌, ◌-◌, ◌^◌, ◌<◌, ◌≤◌, ◌⊎◌, inl, inr, List, ◌++◌, length, take, drop, get_or, refl, sym, ap, ◌∙◌, arith, append_assoc}
+use Rattle.std.proofs.Common.{◌≡◌, ℕ, zero, suc, [], ◌∷◌, ◌+◌, ◌^◌, ◌<◌, ◌≤◌, ◌⊎◌, inl, inr, List, ◌++◌, length, take, drop, get_or, refl, sym, ap, ◌∙◌, arith, append_assoc}
 use Rattle.std.specs.Int.{w16, w64, from_le_bytes, to_le_bytes}
 use Rattle.std.proofs.lemmas.List.{take_at, drop_at, length-append, length-take, length-take-le, length-drop, drop-drop, drop-take, get_or-drop}
-use Rattle.std.proofs.lemmas.Slice.{take-put_mid_below, drop-put_mid, take-put_mid}
+use Rattle.std.proofs.lemmas.Slice.{take-put_mid_below, drop-put_mid}
 use Rattle.std.proofs.lemmas.Nat.{from_le_bytes-to_le_bytes_2, from_le_bytes-to_le_bytes_8, le_bytes_2, le_bytes_8}
 use borrow.Rule.Slice.PartMut.{put_mid}
 use Rattle.ct_page.specs.Fields.{u16_at, u64_at, with_bytes, with_u16, with_u64}

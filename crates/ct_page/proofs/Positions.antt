@@ -1,16 +1,16 @@
 -- A page with another position.
-use Rattle.std.proofs.Common.{◌≡◌, ◌≢◌, ℕ, zero, suc, ◌+◌, ◌-◌, ◌^◌, ◌<◌, ◌≤◌, ◌⊎◌, inl, inr, Bool, true, false, ◌&&◌, List, [], ◌∷◌, ◌++◌, length, take, drop, get_or, eqb, Option, Some, None, refl, sym, ap, ◌∙◌, arith, IsTrue, append_assoc}
+use Rattle.std.proofs.Common.{◌≡◌, ◌≢◌, ℕ, zero, suc, ◌+◌, ◌-◌, ◌^◌, ◌<◌, ◌≤◌, ◌⊎◌, inl, inr, Bool, true, false, ◌&&◌, List, ◌++◌, length, take, drop, get_or, eqb, Option, Some, None, refl, sym, ap, ◌∙◌, arith, IsTrue, append_assoc}
 use Rattle.std.specs.Int.{w64, to_le_bytes}
 use Rattle.std.proofs.lemmas.Bool.{cases_lt}
 use Rattle.std.proofs.lemmas.Bool.Decides.{nat_tests}
-use Rattle.std.proofs.lemmas.List.{take-append-drop, drop-drop, drop_more, get_or-drop, get_or-take, length-take}
+use Rattle.std.proofs.lemmas.List.{take-append-drop, drop-drop, get_or-drop, get_or-take}
 use Rattle.ct_page.specs.declared.kind.PageKind.{PageKind}
 use Rattle.ct_page.specs.declared.kind.PageKind.TheVariants.{Unwritten, Directory, Definition, SpaceMap, Records, Leaf, Inner}
-use Rattle.ct_page.specs.Fields.{u16_at, u64_at, with_bytes, with_u64, are_zero}
+use Rattle.ct_page.specs.Fields.{u64_at, with_u64, are_zero}
 use Rattle.ct_page.specs.Kinds.{kind_of}
 use Rattle.ct_page.specs.Headers.{IsPage, is_unused_zero, has_header_of, has_header, with_position}
 use Rattle.ct_page.proofs.Numbers.{front-with_bytes, behind-with_bytes, length-with_bytes, take-with_bytes, with_bytes-with_bytes, bytes_of_u64}
-use Rattle.ct_page.proofs.Zeros.{are_zero-take, are_zero-drop, are_zero-get_or, are_zero-append, are_zero-number}
+use Rattle.ct_page.proofs.Zeros.{are_zero-take, are_zero-drop, are_zero-append, are_zero-number}
 
 -- the bytes in front of the position, and those behind it
 pub front_kept : (position : ℕ) (page : List ℕ) → IsPage page → take 8 (with_position position page) ≡ take 8 page

@@ -1,5 +1,5 @@
 -- The header of a page: its bytes, its fields, and when it is in the grammar.
-use Rattle.std.specs.Prelude.{◌≡◌, ℕ, ◌<◌, ◌^◌, ◌==◌, ◌&&◌, Bool, true, false, nat_lt, List, [], ◌∷◌, ◌++◌, length, take, drop, replicate, slice_index, Option, Some, None, option_map}
+use Rattle.std.specs.Prelude.{◌≡◌, ℕ, ◌<◌, ◌^◌, ◌==◌, ◌&&◌, Bool, false, nat_lt, List, ◌∷◌, ◌++◌, length, take, drop, replicate, slice_index, Option, Some, None, option_map}
 use Rattle.std.specs.Int.{w16, w64, to_le_bytes}
 use Rattle.ct_page.specs.declared.header.Header.{Header}
 use Rattle.ct_page.specs.declared.kind.PageKind.{PageKind}

@@ -1,4 +1,4 @@
-use Rattle.std.proofs.Common.{ℕ, List, drop, sym, ap, ◌∙◌, inl, inr, arith}
+use Rattle.std.proofs.Common.{inl, inr, arith}
 use Rattle.ct_page.proofs.Numbers.{u64_at-with_u64, u16_at-with_u64_apart, u64_at-with_u64_apart}
 use Rattle.ct_page.proofs.Positions.{byte_kept, behind_kept, grammar_kept, unwritten_grammar, last_position, own_position, page_kept}
 use Rattle.ct_page.proofs.laws.positions_are_exact.Goals as goal
