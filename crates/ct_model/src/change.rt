@@ -8,7 +8,7 @@ use crate::keys::may_stand;
 use crate::rows::{has_image, image_at};
 use crate::state::{State, file_at, has_name};
 use crate::validity::valid;
-use ct_definitions::{Bytes, Change, File, FileDef, MOST_FILES, Row};
+use ct_definitions::{Bytes, Change, File, FileDef, MOST_FILES};
 use ct_items::NoMemory;
 use std::alloc::{AllocError, Global};
 use thiserror::Error;
@@ -129,11 +129,7 @@ fn add(state: &mut State, file: u16, num: u64, new: &Bytes) -> Result<(), NoMemo
     ensures ok { OnOk result (state.new ≡ changed state.old (Change.Add file num new.now)) }
     ensures err { OnErr result (state.new ≡ state.old) }
 {
-    let row = Row {
-        num,
-        image: new.clone()?,
-    };
-    state.put_row(file, row)
+    state.add_row(file, num, new)
 }
 
 fn rewrite(state: &mut State, file: u16, num: u64, old: &Bytes, new: &Bytes) -> Result<(), NoMemory>
@@ -141,9 +137,7 @@ fn rewrite(state: &mut State, file: u16, num: u64, old: &Bytes, new: &Bytes) -> 
     ensures ok { OnOk result (state.new ≡ changed state.old (Change.Rewrite file num old.now new.now)) }
     ensures err { OnErr result (state.new ≡ state.old) }
 {
-    let image = new.clone()?;
-    state.put_image(file, num, image);
-    Ok(())
+    state.rewrite_row(file, num, new)
 }
 
 // makes a change that is defined
@@ -162,7 +156,7 @@ fn perform(alloc: Global, state: &mut State, change: &Change) -> Result<(), NoMe
             new,
         } => rewrite(state, *file, *num, old, new),
         Change::Delete { file, num, .. } => {
-            state.take_row(*file, *num);
+            state.delete_row(*file, *num);
             Ok(())
         }
     }

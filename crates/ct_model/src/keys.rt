@@ -6,6 +6,7 @@ ghost use Rattle.std.specs.List.{list_any};
 ghost use Rattle.ct_definitions.specs.Keys.{key_of};
 ghost use Rattle.ct_definitions.specs.Room.{has_fitting_len};
 ghost use Rattle.ct_definitions.specs.Changes.{is_same_key, is_taken_in, has_taken_key, may_stand};
+ghost use Rattle.ct_definitions.specs.Reached.{rise_above};
 ghost use Rattle.ct_model.specs.Fitting.{reads_keys, reads_all_keys, is_fitting};
 
 use crate::room::{has_fitting_len, has_room};
@@ -74,7 +75,8 @@ pub fn has_taken_key(alloc: Global, file: &File, num: u64, image: &[u8]) -> bool
 /// length that the file allows, no key in a unique index that another record has, and room.
 /// It takes no memory.
 pub fn may_stand(alloc: Global, file: &File, num: u64, image: &[u8]) -> bool
-    requires { is_fitting file.now ≡ true }
+    requires fitting { is_fitting file.now ≡ true }
+    requires rising { rise_above 0 file.now.records ≡ true }
     ensures { result ≡ may_stand file.now num image.now }
 {
     if !has_fitting_len(file.def.kind, image.len()) || has_taken_key(alloc, file, num, image) {

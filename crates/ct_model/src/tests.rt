@@ -98,7 +98,7 @@ fn a_block_has_room_for_one_long_record(rt: HostRuntime) {
     let state = one_record(rt.alloc(), &[b'x'; 3840]).expect(&rt, "a record is added");
     let file = file_at(&state, 0).expect(&rt, "there is a file");
     for (len, num) in [(112, 2), (113, 128), (3840, 128)] {
-        assert_eq!(rt; lowest_free(file, len), Some(num), "of {len} bytes");
+        assert_eq!(rt; lowest_free(&state, 0, len), Some(num), "of {len} bytes");
     }
     assert!(rt; may_stand(rt.alloc(), file, 128, b"yy"));
     assert!(rt; !may_stand(rt.alloc(), file, 128, b"xx"));
