@@ -1,1 +1,2 @@
 pub mod PairLists
+pub mod RowPairs
