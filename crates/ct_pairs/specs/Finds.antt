@@ -1,11 +1,14 @@
 -- What pairs hold, and what a search among them finds: a list's first or last pair that meets a test.
-use Rattle.std.specs.Prelude.{ℕ, List, [], ◌∷◌, length, reverse, filter, find, Bool, true, not, ◌&&◌, ◌==◌, Option, Some, None, bytes_eq, nat_eq}
+use Rattle.std.specs.Prelude.{◌≡◌, ℕ, List, [], ◌∷◌, length, reverse, filter, find, Bool, true, false, not, ◌&&◌, ◌==◌, Option, Some, None, IfSome, IsSomeAnd, bytes_eq, nat_eq}
 use Rattle.std.specs.List.{list_any, starts_with}
 use Rattle.std.specs.Ordering.{nat_cmp, is_lt, is_le, is_eq}
 use Rattle.std.specs.Cmp.Lexicographic.{slice_cmp}
 use Rattle.ct_definitions.specs.declared.definition.IndexDef.{IndexDef}
 use Rattle.ct_definitions.specs.declared.store.Row.{Row}
-use Rattle.ct_definitions.specs.Pairs.{Pair, pair_cmp, pair_of, with_pair}
+use Rattle.ct_definitions.specs.Keys.{key_of}
+use Rattle.ct_definitions.specs.Room.{row_at}
+use Rattle.ct_definitions.specs.Pairs.{Pair, pair_cmp, pair_of}
+use Rattle.ct_laws.specs.Shares.{with_found_pair}
 use Rattle.ct_pairs.specs.declared.seek.Seek.{Seek}
 use Rattle.ct_pairs.specs.declared.seek.Seek.TheVariants.{First, Last, Next, Prev, Equal, AtOrAbove, Above, AtOrBelow, Below, FirstInSet, NextInSet}
 
@@ -25,23 +28,26 @@ without_pair pair pairs = filter (λ other. not (is_pair pair other)) pairs
 abbrev pub has_other_with : ℕ → List ℕ → List Pair → Bool
 has_other_with num key pairs = list_any (λ pair. not (pair.num == num) && bytes_eq pair.key key) pairs
 
--- pairs with a record's pair, where the record has a key
-abbrev pub with_some_pair : Option Pair → List Pair → List Pair
-with_some_pair None pairs = pairs
-with_some_pair (Some pair) pairs = with_pair pair pairs
-
--- pairs without a record's pair, where the record has a key
-abbrev pub without_some_pair : Option Pair → List Pair → List Pair
-without_some_pair None pairs = pairs
-without_some_pair (Some pair) pairs = without_pair pair pairs
+-- pairs without the pair that was found, if one was
+abbrev pub without_found_pair : Option Pair → List Pair → List Pair
+without_found_pair None pairs = pairs
+without_found_pair (Some pair) pairs = without_pair pair pairs
 
 -- pairs with the pair of a record, where it has a key in the index
 abbrev pub with_pair_of : IndexDef → Row → List Pair → List Pair
-with_pair_of index row pairs = with_some_pair (pair_of index row) pairs
+with_pair_of index row pairs = with_found_pair (pair_of index row) pairs
 
 -- pairs without the pair of a record, where it has a key in the index
 abbrev pub without_pair_of : IndexDef → Row → List Pair → List Pair
-without_pair_of index row pairs = without_some_pair (pair_of index row) pairs
+without_pair_of index row pairs = without_found_pair (pair_of index row) pairs
+
+-- the pair of a record, where it has a key in the index, is not among the pairs
+abbrev pub IsApart : IndexDef → Row → List Pair → Type 0
+IsApart index row pairs = IfSome (pair_of index row) (λ pair. has_pair pair pairs ≡ false)
+
+-- the pair is that of a record: its number's, which has its key in the index
+abbrev pub IsOfRecord : IndexDef → List Row → Pair → Type 0
+IsOfRecord index rows pair = IsSomeAnd (row_at pair.num rows) (λ row. key_of index row.image ≡ Some pair.key)
 
 -- the least pair that meets a test, of pairs in order
 abbrev pub least : (Pair → Bool) → List Pair → Option Pair
