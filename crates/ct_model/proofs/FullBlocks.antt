@@ -1,5 +1,5 @@
 -- Blocks in which no number is free, through changes of the records.
-use Rattle.std.proofs.Common.{◌≡◌, ◌≢◌, ℕ, ◌+◌, ◌<◌, ◌≤◌, min, Bool, true, false, ◌&&◌, ◌==◌, nat_lt, nat_le, is_none, List, [], ◌∷◌, length, replicate, sum_by, Option, Some, None, option_map, refl, ap, sym, ◌∙◌, arith}
+use Rattle.std.proofs.Common.{◌≡◌, ◌≢◌, ℕ, ◌+◌, ◌<◌, ◌≤◌, min, Bool, true, false, ◌&&◌, ◌==◌, nat_le, is_none, List, [], ◌∷◌, length, replicate, sum_by, Option, Some, None, option_map, refl, ap, sym, ◌∙◌, arith}
 use Rattle.std.proofs.lemmas.Bool.Decides.{nat_tests}
 use Rattle.std.proofs.lemmas.List.{length-replicate}
 use Rattle.ct_definitions.specs.declared.definition.Kind.{Kind}
@@ -10,7 +10,6 @@ use Rattle.ct_definitions.specs.Room.{row_at, image_at, block_of, use_of, use_be
 use Rattle.ct_definitions.specs.Changes.{with_row, with_image, without_row}
 use Rattle.ct_laws.proofs.Rows.{num-row_at, sum_by-with_row, sum_by-with_image, sum_by-without_row, row_at-with_image_same, row_at-with_image_other, row_at-without_row_other}
 use Rattle.ct_model.specs.Free.{is_free, AreFull}
-use Rattle.ct_model.specs.Stored.{is_longer}
 use Rattle.ct_model.proofs.Places.{none-with_image, none-without_row}
 use Rattle.ct_model.proofs.FreeNumbers.{is_none-image_at}
 
@@ -60,14 +59,14 @@ with_image_found (Some row) block len num image rows is no_less full at least be
         let e : at ≢ num = grind (arith, nat_tests) in
         ap is_none (sym (row_at-with_image_other at num image rows e)) ∙ none
 
-pub AreFull-with_image : (block len num : ℕ) (image : List ℕ) (rows : List Row) → is_longer (length image) (image_at num rows) ≡ false → AreFull block len rows → AreFull block len (with_image num image rows)
-AreFull-with_image block len num image rows longer full =
+pub AreFull-with_image : (block len num : ℕ) (old image : List ℕ) (rows : List Row) → image_at num rows ≡ Some old → length old ≤ length image → AreFull block len rows → AreFull block len (with_image num image rows)
+AreFull-with_image block len num old image rows found longer full =
     with_image_found (row_at num rows) block len num image rows refl
-    (λ row is at below. use_no_less at row (record { num = num; image = image }) (num-row_at num row rows is) (no_shorter row (ap (λ (found : Option Row). is_longer (length image) (option_map (λ (r : Row). r.image) found)) (sym is) ∙ longer)))
+    (λ row is at below. use_no_less at row (record { num = num; image = image }) (num-row_at num row rows is) (no_shorter row (ap (option_map (λ (r : Row). r.image)) (sym is) ∙ found)))
     full
   where
-    no_shorter : (row : Row) → nat_lt (length image) (length row.image) ≡ false → length row.image ≤ length image
-    no_shorter row test = grind (arith, nat_tests)
+    no_shorter : (row : Row) → Some row.image ≡ Some old → length row.image ≤ length image
+    no_shorter row same = let is : row.image ≡ old = cc in rw is longer
 
 pub AreFull-with_shorter : (block len num : ℕ) (image : List ℕ) (rows : List Row) → AreFull block len rows → AreFull (min block (block_of num)) len (with_image num image rows)
 AreFull-with_shorter block len num image rows full =

@@ -4,4 +4,6 @@ pub mod StoredFiles
 pub mod FreeNumbers
 pub mod Blocks
 pub mod FullBlocks
+pub mod EachPairs
+pub mod Found
 pub mod Kept

@@ -1,11 +1,11 @@
 -- Files with what is kept beside them: what holds of one of them, and what an edit of one leaves.
-use Rattle.std.proofs.Common.{◌≡◌, ℕ, zero, suc, ◌<◌, Result, Ok, Err, OnOk, OnErr, true, List, [], ◌∷◌, ◌++◌, length, get_or, slice_get, slice_set, refl, ap, sym, subst, ◌∙◌, arith}
+use Rattle.std.proofs.Common.{◌≡◌, ℕ, zero, suc, ◌<◌, Result, Ok, Err, OnOk, OnErr, true, List, [], ◌∷◌, ◌++◌, length, get_or, slice_get, slice_set, refl, ap, sym, subst, ◌∙◌, arith, Bool, Option, Some}
 use Rattle.std.proofs.lemmas.List.{set-get_or}
 use Rattle.ct_items.specs.declared.no_memory.NoMemory.{NoMemory}
 use Rattle.ct_definitions.specs.declared.store.Row.{Row}
 use Rattle.ct_definitions.specs.declared.store.File.{File}
 use Rattle.ct_definitions.specs.Room.{has_fitting_len}
-use Rattle.ct_definitions.specs.Changes.{State, in_file, with_records}
+use Rattle.ct_definitions.specs.Changes.{State, in_file, with_records, passes}
 use Rattle.ct_model.specs.declared.cache.Cache.{Cache}
 use Rattle.ct_model.specs.Fitting.{are_fitting, takes_len_in}
 use Rattle.ct_model.specs.Stored.{IsStored, AreStored, are_rising, records_at}
@@ -107,3 +107,24 @@ change_refused state inside place now new (Err refusal) same is err = unedited s
 
 pub within_read : (state inside : State) (file place : ℕ) → inside ≡ state → place ≡ file → file < length state → place < length inside
 within_read state inside file place same at within = rw (same, at) within
+
+-- ---- tests of the file at a place
+
+pub passes_read : (state inside : State) (file place : ℕ) (test : File → Bool) (now : File) → inside ≡ state → place ≡ file → file < length state → now ≡ get_or inside place now → passes (slice_get state file) test ≡ test now
+passes_read state inside file place test now same at within is =
+    let here : now ≡ get_or state file now = rw (← same, ← at) is in
+    passes_at state file test now within ∙ ap test (sym here)
+  where
+    passes_at : (state : State) (file : ℕ) (test : File → Bool) (d : File) → file < length state → passes (slice_get state file) test ≡ test (get_or state file d)
+    passes_at [] file test d within = absurd (omega arith)
+    passes_at (f ∷ state) zero test d within = refl
+    passes_at (f ∷ state) (suc file) test d within = passes_at state file test d (omega arith)
+
+-- a file that was found is one of the state
+pub found_within : (state : State) (file : ℕ) (found : File) → Some found ≡ slice_get state file → file < length state
+found_within [] file found is = absurd (cc)
+found_within (f ∷ state) zero found is = omega arith
+found_within (f ∷ state) (suc file) found is = let rest = found_within state file found is in omega arith
+
+pub passes_found : (state : State) (file : ℕ) (found : File) (test : File → Bool) → Some found ≡ slice_get state file → passes (slice_get state file) test ≡ test found
+passes_found state file found test is = ap (λ (f : Option File). passes f test) (sym is)

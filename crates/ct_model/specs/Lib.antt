@@ -1,3 +1,4 @@
+pub mod EachIndex
 pub mod Fitting
 pub mod Free
 pub mod Stored

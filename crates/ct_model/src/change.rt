@@ -4,9 +4,8 @@
 ghost use Rattle.std.specs.Prelude.{◌≡◌, ◌↔◌, true, false, Some, None, Ok, IfOk, OnOk, OnErr, IsErrOf};
 ghost use Rattle.ct_definitions.specs.Changes.{allows, changed, inverse_of};
 
-use crate::keys::may_stand;
 use crate::rows::{has_image, image_at};
-use crate::state::{State, file_at, has_name};
+use crate::state::{State, file_at, has_name, may_stand};
 use crate::validity::valid;
 use ct_definitions::{Bytes, Change, File, FileDef, MOST_FILES};
 use ct_items::NoMemory;
@@ -74,7 +73,7 @@ fn allows_add(state: &State, file: u16, num: u64, new: &Bytes) -> bool
     if num == 0 || image_at(num, found.records.as_slice()).is_some() {
         return false;
     }
-    may_stand(state.allocator(), found, num, new.as_slice())
+    may_stand(state.allocator(), state, file, num, new.as_slice())
 }
 
 fn allows_rewrite(state: &State, file: u16, num: u64, old: &Bytes, new: &Bytes) -> bool
@@ -86,7 +85,7 @@ fn allows_rewrite(state: &State, file: u16, num: u64, old: &Bytes, new: &Bytes) 
     if !has_image(num, old.as_slice(), found.records.as_slice()) {
         return false;
     }
-    may_stand(state.allocator(), found, num, new.as_slice())
+    may_stand(state.allocator(), state, file, num, new.as_slice())
 }
 
 fn allows_delete(state: &State, file: u16, num: u64, old: &Bytes) -> bool

@@ -5,16 +5,18 @@ ghost use Rattle.std.specs.Prelude.{◌≡◌, ◌<◌, ◌≤◌, ◌^◌, ℕ,
 ghost use Rattle.std.specs.Option.{option_copied};
 ghost use Rattle.ct_definitions.specs.Validity.{is_valid};
 ghost use Rattle.ct_definitions.specs.Room.{row_at};
-ghost use Rattle.ct_definitions.specs.Changes.{has_name, in_file, with_row, with_image, without_row};
+ghost use Rattle.ct_definitions.specs.Changes.{has_name, has_taken_key, may_stand, passes, in_file, with_row, with_image, without_row};
 ghost use Rattle.ct_definitions.specs.Reached.{rise_above};
 ghost use Rattle.ct_model.specs.Fitting.{is_fitting, are_fitting, takes_len_in};
 ghost use Rattle.ct_model.specs.Free.{IsFree, IsNotFree};
-ghost use Rattle.ct_model.specs.Stored.{are_rising, records_at};
+ghost use Rattle.ct_model.specs.Stored.{are_rising, records_at, found_in};
 
 use crate::cache::Cache;
+use crate::keys::{can_stand, is_key_taken};
 use crate::stored::{add_row, delete_row, lowest_free_in_file, new_cache, new_file, rewrite_row};
 use ct_definitions::{Bytes, File, FileDef, LONGEST_IMAGE};
 use ct_items::NoMemory;
+use ct_pairs::{Pair, Pairs, Seek};
 use std::alloc::Global;
 use std::marker::Model;
 
@@ -27,7 +29,7 @@ pub struct Record {
 
 /// The files of a store in the order of their making.
 /// Each definition is valid, each image has a length that its file allows, and numbers rise.
-#[derive(Debug, Drop)]
+#[derive(Drop)]
 pub struct State {
     files: Vec<File>,
     caches: Vec<Cache>,
@@ -66,6 +68,19 @@ impl State {
         self.files.as_slice()
     }
 
+    /// The pair that a search finds in an index of a file, or none where there is no such index.
+    pub fn find(&self, file: u16, index: usize, seek: Seek<'_>) -> Option<&Pair>
+        ensures { option_copied result ≡ found_in (slice_get self.now file) index seek.entry }
+    {
+        let Some(cache) = cache_at(usize::from(file), self.caches.as_slice()) else {
+            return None;
+        };
+        let Some(pairs) = pairs_at(index, cache.pairs.as_slice()) else {
+            return None;
+        };
+        pairs.find(seek)
+    }
+
     /// The allocator of the state.
     pub(crate) fn allocator(&self) -> Global {
         *self.files.allocator()
@@ -78,7 +93,7 @@ impl State {
         ensures err { OnErr result (self.new ≡ self.old) }
     {
         let file = new_file(alloc, def);
-        let cache = new_cache(&file);
+        let cache = new_cache(alloc, &file)?;
         self.files.push(file)?;
         if self.caches.push(cache).is_err() {
             let _file = self.files.pop();
@@ -97,7 +112,14 @@ impl State {
         ensures err { OnErr result (self.new ≡ self.old) }
     {
         let place = usize::from(file);
-        add_row(&mut self.files[place], &mut self.caches[place], num, image)
+        let alloc = *self.files.allocator();
+        add_row(
+            alloc,
+            &mut self.files[place],
+            &mut self.caches[place],
+            num,
+            image,
+        )
     }
 
     /// Gives the record of the number in a file another image.
@@ -108,7 +130,14 @@ impl State {
         ensures err { OnErr result (self.new ≡ self.old) }
     {
         let place = usize::from(file);
-        rewrite_row(&mut self.files[place], &mut self.caches[place], num, image)
+        let alloc = *self.files.allocator();
+        rewrite_row(
+            alloc,
+            &mut self.files[place],
+            &mut self.caches[place],
+            num,
+            image,
+        )
     }
 
     /// Takes the record of the number out of a file.
@@ -117,8 +146,23 @@ impl State {
         ensures { self.new ≡ in_file self.old file (without_row num) }
     {
         let place = usize::from(file);
-        delete_row(&mut self.files[place], &mut self.caches[place], num);
+        let alloc = *self.files.allocator();
+        delete_row(alloc, &mut self.files[place], &mut self.caches[place], num);
     }
+}
+
+// what is kept beside the file at a place
+fn cache_at(place: usize, caches: &[Cache]) -> Option<&Cache>
+    ensures { option_copied result ≡ slice_get caches.now place }
+{
+    caches.get(place)
+}
+
+// the pairs of the index at a place
+fn pairs_at(place: usize, pairs: &[Pairs]) -> Option<&Pairs>
+    ensures { option_copied result ≡ slice_get pairs.now place }
+{
+    pairs.get(place)
 }
 
 /// The lowest number, from 1 on, that no record of the file has and whose block has room for an
@@ -132,6 +176,28 @@ pub fn lowest_free(state: &State, file: u16, len: usize) -> Option<u64>
 {
     let place = usize::from(file);
     lowest_free_in_file(&state.files[place], &state.caches[place], len)
+}
+
+/// Whether another record of the file has a key of the image in a unique index.
+/// It takes no memory.
+pub fn has_taken_key(alloc: Global, state: &State, file: u16, num: u64, image: &[u8]) -> bool
+    requires file { file < length state.now }
+    requires len { takes_len_in (slice_get state.now file) (length image.now) ≡ true }
+    ensures { result ≡ passes (slice_get state.now file) (λ f. has_taken_key f num image.now) }
+{
+    let place = usize::from(file);
+    is_key_taken(alloc, &state.files[place], &state.caches[place], num, image)
+}
+
+/// Whether the image may stand under the number beside the other records of the file: it has a
+/// length that the file allows, no key in a unique index that another record has, and room.
+/// It takes no memory.
+pub fn may_stand(alloc: Global, state: &State, file: u16, num: u64, image: &[u8]) -> bool
+    requires { file < length state.now }
+    ensures { result ≡ passes (slice_get state.now file) (λ f. may_stand f num image.now) }
+{
+    let place = usize::from(file);
+    can_stand(alloc, &state.files[place], &state.caches[place], num, image)
 }
 
 /// The file of the number, from 0.

@@ -9,7 +9,7 @@ use Rattle.ct_model.proofs.state.State.push_file.Goals as goal
 pub invariant_of-self-else-is_err : goal.invariant_of-self-else-is_err
 invariant_of-self-else-is_err c =
     let files : c.push.new.self.items ≡ c.self.inside.files.items ++ c.new_file-file.result ∷ [] = c.in_ok-push.ensures.items in
-    let caches : c.push-2.new.self.items ≡ c.self.inside.caches.items ++ c.new_cache-cache.result ∷ [] = grind (arith, common_steps) in
+    let caches : c.push-2.new.self.items ≡ c.self.inside.caches.items ++ c.in_ok-cache.cache ∷ [] = grind (arith, common_steps) in
     subst (λ (beside : List Cache). AreStored c.push.new.self.items beside) (sym caches)
-    (subst (λ (all : List File). AreStored all (c.self.inside.caches.items ++ c.new_cache-cache.result ∷ [])) (sym files)
-    (stored_more c.self.inside.files.items c.self.inside.caches.items c.new_file-file.result c.new_cache-cache.result c.self.invariant c.new_cache-cache.ensures))
+    (subst (λ (all : List File). AreStored all (c.self.inside.caches.items ++ c.in_ok-cache.cache ∷ [])) (sym files)
+    (stored_more c.self.inside.files.items c.self.inside.caches.items c.new_file-file.result c.in_ok-cache.cache c.self.invariant c.in_ok-cache.ensures))
