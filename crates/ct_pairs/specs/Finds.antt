@@ -1,5 +1,5 @@
 -- What pairs hold, and what a search among them finds: a list's first or last pair that meets a test.
-use Rattle.std.specs.Prelude.{◌≡◌, ℕ, List, [], ◌∷◌, length, reverse, filter, find, Bool, true, false, not, ◌&&◌, ◌==◌, Option, Some, None, IfSome, IsSomeAnd, bytes_eq, nat_eq}
+use Rattle.std.specs.Prelude.{◌≡◌, ℕ, List, reverse, filter, find, Bool, true, false, not, ◌&&◌, ◌==◌, Option, Some, None, IfSome, IsSomeAnd, bytes_eq, nat_eq}
 use Rattle.std.specs.List.{list_any, starts_with}
 use Rattle.std.specs.Ordering.{nat_cmp, is_lt, is_le, is_eq}
 use Rattle.std.specs.Cmp.Lexicographic.{slice_cmp}

@@ -15,3 +15,6 @@ pub use laws::{
 pub use pair::Pair;
 pub use pairs::Pairs;
 pub use seek::Seek;
+
+#[cfg(test)]
+mod tests;

@@ -88,10 +88,18 @@ impl Pairs {
     pub fn has_other_with(&self, num: u64, key: &[u8]) -> bool
         ensures { result ≡ has_other_with num key.now self.now }
     {
-        self.set
-            .iter()
-            .any(|pair| pair.num() != num && pair.key() == key)
+        let Some(first) = self.first_with(key) else {
+            return false;
+        };
+        if first.num() != num {
+            return true;
+        }
+        let Some(second) = self.first_from(Bound::Excluded(first)) else {
+            return false;
+        };
+        second.key() == key
     }
+
     /// The pair that the search looks for, or none where there is none.
     ///
     /// It takes no memory for keys of at most 128 bytes. For a longer key, which no index has, all
