@@ -70,6 +70,7 @@ impl Pairs {
         ensures ok { OnOk result (self.new ≡ with_pair pair self.old) }
         ensures err { OnErr result (self.new ≡ self.old) }
     {
+        // Read for its range: each number here has 64 bits, on which the searches above a key rest.
         let _num = pair.num();
         match self.set.insert(pair) {
             Ok(_new) => Ok(()),
