@@ -1,6 +1,6 @@
 -- What a range of pairs in order begins and ends with is what a search finds.
-use Rattle.std.proofs.Common.{◌≡◌, ℕ, ◌^◌, ◌<◌, ◌≤◌, ◌-◌, ◌==◌, nat_lt, nat_eq, Bool, true, false, not, ◌&&◌, ◌||◌, cond, List, [], ◌∷◌, ◌++◌, length, take, reverse, Option, Some, None, option_map, MatchOption, bytes_eq, Bor, subst, refl, sym, ap, ◌∙◌, arith}
-use Rattle.std.specs.List.{list_any, list_all, filter, find, starts_with, AllByRecursion}
+use Rattle.std.proofs.Common.{◌≡◌, ℕ, ◌^◌, ◌<◌, ◌≤◌, ◌==◌, nat_lt, nat_eq, Bool, true, false, not, ◌&&◌, cond, List, [], ◌∷◌, ◌++◌, reverse, Option, Some, None, bytes_eq, Bor, subst, refl, sym, ap, ◌∙◌, arith}
+use Rattle.std.specs.List.{list_all, filter, find, starts_with, AllByRecursion}
 use Rattle.std.specs.List.Sorted.{IsStrictlySortedBy}
 use Rattle.std.specs.Bool.{beq}
 use Rattle.std.specs.Option.{option_copied}
@@ -21,7 +21,7 @@ use Rattle.std.proofs.lemmas.Map.Text.{is_eq-slice_cmp}
 use Rattle.std.specs.BTreeMap.Comparable.{le_lt_trans}
 use Rattle.std.specs.Cmp.Lexicographic.{bytes_decides}
 use Rattle.ct_definitions.specs.Pairs.{Pair, pair_cmp}
-use Rattle.ct_pairs.specs.Finds.{is_pair, has_pair, least, greatest, is_above, is_below, has_key, is_at_or_above, is_key_above, is_at_or_below, is_key_below, is_in_set}
+use Rattle.ct_pairs.specs.Finds.{least, greatest, is_above, is_below, has_key, is_at_or_above, is_key_above, is_at_or_below, is_key_below, is_in_set}
 use Rattle.ct_pairs.specs.Order.{pair_cmp_total}
 use Rattle.ct_pairs.proofs.PairLists.{IsInOrder, have_short_nums}
 
@@ -141,11 +141,11 @@ find-never : (test : Pair → Bool) (P : Pair → Type 0) (xs : List Pair) → A
 find-never test P [] each never = refl
 find-never test P (x ∷ xs) each never = ap (λ here. cond here (Some x) (find test xs)) (never x each.0) ∙ find-never test P xs each.1 never
 
-false_from : (b : Bool) → (b ≡ true → ⊥) → b ≡ false
+pub false_from : (b : Bool) → (b ≡ true → ⊥) → b ≡ false
 false_from true h = absurd (h refl)
 false_from false h = refl
 
-not_both : {b : Bool} → b ≡ true → b ≡ false → ⊥
+pub not_both : {b : Bool} → b ≡ true → b ≡ false → ⊥
 not_both yes' no' = cc
 
 -- the pair that was found, where it meets a test
@@ -345,7 +345,7 @@ same_from_beq false false h = refl
 abbrev agrees : (Pair → Bool) → Pair → Pair → Bool
 agrees from above x = beq (not (from x)) (is_below above x)
 
-found_meets : (P : Pair → Type 0) (from : Pair → Bool) (xs : List Pair) (above : Pair) → AllByRecursion P xs → find from xs ≡ Some above → P above
+pub found_meets : (P : Pair → Type 0) (from : Pair → Bool) (xs : List Pair) (above : Pair) → AllByRecursion P xs → find from xs ≡ Some above → P above
 found_meets P from [] above each found = cc
 found_meets P from (x ∷ xs) above each found = by_test (found_meets P from xs above each.1) (from x) found
   where
@@ -402,7 +402,7 @@ outside-at_or_above key xs = same_outside _ (is_key_below key) (λ x. not_is_le 
 pub outside-above : (key : List ℕ) (xs : List Pair) → greatest (λ x. not (is_key_above key x)) xs ≡ greatest (is_at_or_below key) xs
 outside-above key xs = same_outside _ (is_at_or_below key) (λ x. not_is_lt (slice_cmp nat_cmp key x.key) ∙ ap is_le (key_back key x.key)) xs
 
-found_passes : (test : Pair → Bool) (xs : List Pair) (x : Pair) → Some x ≡ find test xs → test x ≡ true
+pub found_passes : (test : Pair → Bool) (xs : List Pair) (x : Pair) → Some x ≡ find test xs → test x ≡ true
 found_passes test [] x found = cc
 found_passes test (y ∷ ys) x found = by_test (found_passes test ys x) (test y) refl found
   where
@@ -410,7 +410,7 @@ found_passes test (y ∷ ys) x found = by_test (found_passes test ys x) (test y)
     by_test rest true meets e = let same : x ≡ y = cc in ap test same ∙ meets
     by_test rest false other e = rest e
 
-and_false : (b : Bool) → (b && false) ≡ false
+pub and_false : (b : Bool) → (b && false) ≡ false
 and_false true = refl
 and_false false = refl
 

@@ -1,6 +1,6 @@
 -- Pairs in order: what an ordered set does to them is what the definitions say.
-use Rattle.std.proofs.Common.{◌≡◌, ℕ, ◌^◌, ◌<◌, nat_lt, Bool, true, false, not, ◌&&◌, ◌||◌, cond, List, [], ◌∷◌, refl, sym, ap, ◌∙◌, IsTrue, OnOk, OnErr, Result, Ok, Err}
-use Rattle.std.specs.List.{list_any, list_all, filter, AllByRecursion}
+use Rattle.std.proofs.Common.{◌≡◌, ℕ, ◌^◌, ◌<◌, nat_lt, Bool, true, false, not, cond, List, [], ◌∷◌, refl, sym, ap, ◌∙◌, OnOk, OnErr, Result, Ok, Err}
+use Rattle.std.specs.List.{list_all, AllByRecursion}
 use Rattle.std.specs.List.Sorted.{IsStrictlySortedBy}
 use Rattle.std.specs.declared.cmp.Ordering.{Ordering}
 use Rattle.std.specs.declared.cmp.Ordering.TheVariants.{Less, Equal, Greater}

@@ -1,6 +1,6 @@
 -- The pairs of records, where a record comes, changes or goes.
-use Rattle.std.proofs.Common.{◌≡◌, ◌≢◌, ℕ, ◌≤◌, ◌==◌, Bool, true, false, not, ◌&&◌, ◌||◌, cond, nat_lt, List, [], ◌∷◌, ◌++◌, Option, Some, None, option_map, is_none, bytes_eq, nat_eq, reverse, refl, sym, ap, ◌∙◌, subst, arith, IfSome, IsSomeAnd}
-use Rattle.std.specs.List.{list_any, filter, find, AllByRecursion}
+use Rattle.std.proofs.Common.{◌≡◌, ℕ, ◌==◌, Bool, true, false, not, ◌&&◌, ◌||◌, cond, List, [], ◌∷◌, ◌++◌, Option, Some, None, option_map, is_none, bytes_eq, reverse, refl, sym, ap, ◌∙◌, subst, arith, IfSome, IsSomeAnd}
+use Rattle.std.specs.List.{list_any, find, AllByRecursion}
 use Rattle.std.specs.List.Sorted.{IsStrictlySortedBy}
 use Rattle.std.specs.declared.cmp.Ordering.{Ordering}
 use Rattle.std.specs.declared.cmp.Ordering.TheVariants.{Less, Equal, Greater}
@@ -14,12 +14,12 @@ use Rattle.ct_definitions.specs.declared.definition.IndexDef.{IndexDef}
 use Rattle.ct_definitions.specs.declared.store.Row.{Row}
 use Rattle.ct_definitions.specs.Keys.{key_of}
 use Rattle.ct_definitions.specs.Room.{row_at, image_at}
-use Rattle.ct_definitions.specs.Changes.{is_same_key, has_key_of, with_row, with_image, without_row}
+use Rattle.ct_definitions.specs.Changes.{is_same_key, has_key_of, with_image, without_row}
 use Rattle.ct_definitions.specs.Pairs.{Pair, pair_cmp, pair_of, with_pair, pairs_of}
 use Rattle.ct_definitions.specs.Reached.{rise_above}
 use Rattle.ct_laws.specs.Shares.{with_found_pair}
 use Rattle.ct_laws.proofs.Rows.{num-row_at, row_at_none, row_at-without_row_same}
-use Rattle.ct_laws.proofs.Pairs.{same_pair, pairs_of-cons, pairs_of-with_row, pairs_of-without_row, pairs_of-with_image}
+use Rattle.ct_laws.proofs.Pairs.{same_pair, pairs_of-cons, pairs_of-without_row, pairs_of-with_image}
 use Rattle.ct_pairs.specs.Finds.{is_pair, has_pair, without_pair, without_found_pair, with_pair_of, without_pair_of, has_other_with, IsApart, IsOfRecord, found_pair}
 use Rattle.ct_pairs.specs.Order.{pair_cmp_total, same_pair_equiv}
 use Rattle.ct_pairs.specs.declared.seek.Seek.{Seek}

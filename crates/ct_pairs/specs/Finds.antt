@@ -1,5 +1,5 @@
 -- What pairs hold, and what a search among them finds: a list's first or last pair that meets a test.
-use Rattle.std.specs.Prelude.{◌≡◌, ℕ, List, [], ◌∷◌, length, reverse, filter, find, Bool, true, false, not, ◌&&◌, ◌==◌, Option, Some, None, IfSome, IsSomeAnd, bytes_eq, nat_eq}
+use Rattle.std.specs.Prelude.{◌≡◌, ℕ, List, reverse, filter, find, Bool, true, false, not, ◌&&◌, ◌==◌, Option, Some, None, IfSome, IsSomeAnd, bytes_eq, nat_eq}
 use Rattle.std.specs.List.{list_any, starts_with}
 use Rattle.std.specs.Ordering.{nat_cmp, is_lt, is_le, is_eq}
 use Rattle.std.specs.Cmp.Lexicographic.{slice_cmp}
@@ -57,10 +57,11 @@ least meets pairs = find meets pairs
 abbrev pub greatest : (Pair → Bool) → List Pair → Option Pair
 greatest meets pairs = find meets (reverse pairs)
 
--- whether the second pair is above the first, and below it
+-- whether the other pair is above the pair
 abbrev pub is_above : Pair → Pair → Bool
 is_above pair other = is_lt (pair_cmp pair other)
 
+-- whether the other pair is below the pair
 abbrev pub is_below : Pair → Pair → Bool
 is_below pair other = is_lt (pair_cmp other pair)
 
@@ -68,16 +69,19 @@ is_below pair other = is_lt (pair_cmp other pair)
 abbrev pub has_key : List ℕ → Pair → Bool
 has_key key pair = bytes_eq pair.key key
 
--- whether a pair's key is at the key or above it, and so on
+-- whether a pair's key is at the key or above it
 abbrev pub is_at_or_above : List ℕ → Pair → Bool
 is_at_or_above key pair = is_le (slice_cmp nat_cmp key pair.key)
 
+-- whether a pair's key is above the key
 abbrev pub is_key_above : List ℕ → Pair → Bool
 is_key_above key pair = is_lt (slice_cmp nat_cmp key pair.key)
 
+-- whether a pair's key is at the key or below it
 abbrev pub is_at_or_below : List ℕ → Pair → Bool
 is_at_or_below key pair = is_le (slice_cmp nat_cmp pair.key key)
 
+-- whether a pair's key is below the key
 abbrev pub is_key_below : List ℕ → Pair → Bool
 is_key_below key pair = is_lt (slice_cmp nat_cmp pair.key key)
 

@@ -1,8 +1,8 @@
 -- The order of pairs is a total order, as ordered sets need it.
-use Rattle.std.specs.Ordering.{nat_cmp, eq_by_cmp}
+use Rattle.std.specs.Ordering.{eq_by_cmp}
 use Rattle.std.specs.Cmp.{IsTotalOrder, IsEquivalence, on_total, then_total, nat_cmp_total, eq_by_cmp_equiv}
 use Rattle.std.specs.Cmp.Lexicographic.{lists_total}
-use Rattle.ct_definitions.specs.Pairs.{Pair, pair_cmp}
+use Rattle.ct_definitions.specs.Pairs.{pair_cmp}
 
 -- by key, and then by number
 pub pair_cmp_total : IsTotalOrder pair_cmp

@@ -1,5 +1,5 @@
 //! The pairs of an index, each a key and the number of the record that has it, in order: putting
-//! one in, taking one out, and every search for one, each by the tree's order and none by a scan.
+//! one in, taking one out, and every search for one, by descents of a tree.
 //! What a search finds is said in `specs/Finds.antt`.
 #![tactic(auto)]
 
@@ -15,3 +15,6 @@ pub use laws::{
 pub use pair::Pair;
 pub use pairs::Pairs;
 pub use seek::Seek;
+
+#[cfg(test)]
+mod tests;

@@ -15,7 +15,6 @@ pub struct Pair {
 }
 
 impl Model for Pair {
-    ghost use Rattle.std.specs.Prelude.{◌<◌, ◌^◌};
     ghost use Rattle.ct_definitions.specs.Pairs.{Pair as Seen};
 
     ghost Value = { Seen };

@@ -70,6 +70,7 @@ impl Pairs {
         ensures ok { OnOk result (self.new ≡ with_pair pair self.old) }
         ensures err { OnErr result (self.new ≡ self.old) }
     {
+        // Read for its range: each number here has 64 bits, on which the searches above a key rest.
         let _num = pair.num();
         match self.set.insert(pair) {
             Ok(_new) => Ok(()),
@@ -88,10 +89,18 @@ impl Pairs {
     pub fn has_other_with(&self, num: u64, key: &[u8]) -> bool
         ensures { result ≡ has_other_with num key.now self.now }
     {
-        self.set
-            .iter()
-            .any(|pair| pair.num() != num && pair.key() == key)
+        let Some(first) = self.first_with(key) else {
+            return false;
+        };
+        if first.num() != num {
+            return true;
+        }
+        let Some(second) = self.first_from(Bound::Excluded(first)) else {
+            return false;
+        };
+        second.key() == key
     }
+
     /// The pair that the search looks for, or none where there is none.
     ///
     /// It takes no memory for keys of at most 128 bytes. For a longer key, which no index has, all

@@ -1,4 +1,4 @@
-use Rattle.std.proofs.Common.{◌≡◌, true, false, bytes_eq, nat_eq, ap, sym, ◌∙◌}
+use Rattle.std.proofs.Common.{nat_eq, ap, sym, ◌∙◌}
 use Rattle.std.specs.List.{starts_with}
 use Rattle.ct_pairs.specs.Finds.{is_at_or_above, is_in_set}
 use Rattle.ct_pairs.proofs.Finding.{Begins-is_in_set, kept-none, kept-some, kept-other}

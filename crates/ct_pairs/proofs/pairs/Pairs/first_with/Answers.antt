@@ -1,5 +1,4 @@
-use Rattle.std.proofs.Common.{◌≡◌, true, false, bytes_eq, nat_eq, ap, sym, ◌∙◌}
-use Rattle.std.specs.List.{starts_with}
+use Rattle.std.proofs.Common.{bytes_eq, ap, sym, ◌∙◌}
 use Rattle.ct_pairs.specs.Finds.{is_at_or_above, has_key}
 use Rattle.ct_pairs.proofs.Finding.{Begins-has_key, kept-none, kept-some, kept-other}
 use Rattle.ct_pairs.proofs.pairs.Pairs.first_with.Goals as goal
