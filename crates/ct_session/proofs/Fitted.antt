@@ -65,6 +65,11 @@ taken_is_duplicate file num image none = taken_in num image file.records file.de
 pub at_first : (state : State) (file : File) (test : File → Bool) (b : Bool) → slice_get state 0 ≡ Some file → test file ≡ b → passes (slice_get state 0) test ≡ b
 at_first state file test b first same = ap (λ (o : Option File). passes o test) first ∙ same
 
+-- a state with a first file has one
+pub first_within : (state : State) (file : File) → slice_get state 0 ≡ Some file → 0 < length state
+first_within [] file first = absurd (cc)
+first_within (f ∷ files) file first = omega arith
+
 pub no_first : (state : State) (test : File → Bool) → slice_get state 0 ≡ None → passes (slice_get state 0) test ≡ false
 no_first state test none = ap (λ (o : Option File). passes o test) none
 

@@ -24,7 +24,7 @@ use ct_disk::{Disk, HaltCause};
 use ct_items::{Items, NoMemory};
 use ct_key::{KeyBuf, key_len, key_of};
 use ct_model::{
-    Change, File, FileDef, IndexDef, Kind, Mode, Row, Seg, has_fitting_len, has_taken_key,
+    Change, File, FileDef, IndexDef, Kind, Mode, Row, Seg, State, has_fitting_len, has_taken_key,
     lowest_free, valid,
 };
 use ct_yard::{CommitFault, Yard};
@@ -116,16 +116,17 @@ fn takes_image(name: &[u8], image: &[u8], file: &File) -> bool
 }
 
 /// The number and the answer of a new record: none where it has a key that is there.
-fn number_for(alloc: Global, file: &File, image: &[u8]) -> Result<u64, Said>
+fn number_for(alloc: Global, state: &State, file: &File, image: &[u8]) -> Result<u64, Said>
+    requires first { slice_get state.now 0 ≡ Some file.now }
     requires fitting { is_fitting file.now ≡ true }
     requires len { has_fitting_len file.now.def.kind (length image.now) ≡ true }
     ensures ok { IfOk result (λ num. (is_duplicate image.now file.now ≡ false) × (nat_le 1 num && is_none (image_at num file.now.records) && may_stand file.now num image.now ≡ true)) }
     ensures err { IfErr result (IsWhyNot image.now file.now) }
 {
-    let Some(num) = lowest_free(file, image.len()) else {
+    let Some(num) = lowest_free(state, 0, image.len()) else {
         return Err(Said::Memory);
     };
-    if has_taken_key(alloc, file, num, image) {
+    if has_taken_key(alloc, state, 0, num, image) {
         return Err(Said::KdupErr);
     }
     Ok(num)
@@ -150,7 +151,7 @@ fn serve_add<P: Disk, L: Disk>(
     if !takes_image(name, image, file) {
         return Said::Unbuilt;
     }
-    let num = match number_for(alloc, file, image) {
+    let num = match number_for(alloc, &yard.state, file, image) {
         Ok(num) => num,
         Err(said) => return said,
     };

@@ -5,6 +5,9 @@ use Rattle.ct_session.proofs.Fitted.{at_first}
 use Rattle.ct_session.proofs.Served.{add_serves}
 use Rattle.ct_session.proofs.answer.serve_add.Goals as goal
 
+pub number_for-requires-clause-first : goal.number_for-requires-clause-first
+number_for-requires-clause-first g c = ap (λ (files : List File). slice_get files 0) (sym c.files.ensures.files) ∙ sym c.in-Some.ensures.value
+
 pub returns-clause-serves : goal.returns-clause-serves
 returns-clause-serves g c =
     let first : slice_get c.args.yard.now.state 0 ≡ Some c.in-Some.file.now = ap (λ (files : List File). slice_get files 0) (sym c.files.ensures.files) ∙ sym c.in-Some.ensures.value in
