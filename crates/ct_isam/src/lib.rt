@@ -1,0 +1,11 @@
+//! The calls of an ISAM session on a store: files made, records added, and every search.
+//! What each call answers and leaves is said in `specs/Calls.antt` and `specs/Searches.antt`.
+#![tactic(auto)]
+
+mod answering;
+mod reply;
+mod session;
+
+pub use answering::answer;
+pub use reply::Reply;
+pub use session::{KeySet, Seat, Session};
