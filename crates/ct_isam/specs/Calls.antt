@@ -27,8 +27,8 @@ use Rattle.ct_line.specs.declared.call.NewKind.TheVariants as new_kinds
 use Rattle.ct_yard.specs.Machine.{Machine, state_of, IsCommitted, IsHaltedWith}
 use Rattle.ct_isam.specs.declared.session.Seat.{Seat}
 use Rattle.ct_isam.specs.Replies.{Reply, ok, number, found, halt_err, unbuilt, no_file, exists, bad_def, bad_len, file_full, kdup_err, no_memory}
-use Rattle.ct_isam.specs.Seats.{seat_of, with_seat, with_current}
-use Rattle.ct_isam.specs.Searches.{Outcome, refused, finds, file_named, in_index, walk_by, walk_finder, search_by, sought_key}
+use Rattle.ct_isam.specs.Seats.{with_seat, with_current}
+use Rattle.ct_isam.specs.Searches.{Outcome, refused, finds, file_named, in_index, walk_at, search_at}
 
 -- ---- CREATE
 
@@ -112,8 +112,8 @@ Creates def old seats reply new new_seats = MatchOption (create_refusal (state_o
 abbrev pub Answers : Call → Machine → List Seat → Reply → Machine → List Seat → Type 0
 Answers (calls.Create file) old seats reply new new_seats = Creates (described file) old seats reply new new_seats
 Answers (calls.Add file image) old seats reply new new_seats = Adds (file_named file (state_of old)) image old seats reply new new_seats
-Answers (calls.Walk walk file index) old seats reply new new_seats = Shows (in_index (state_of old) file index (λ f found i def. walk_by (walk_finder walk def i (seat_of f seats)) def found.records (seat_of f seats))) old seats reply new new_seats
-Answers (calls.Search search file index target) old seats reply new new_seats = Shows (in_index (state_of old) file index (λ f found i def. search_by search (sought_key search def target) def i found.records (seat_of f seats))) old seats reply new new_seats
+Answers (calls.Walk walk file index) old seats reply new new_seats = Shows (in_index (state_of old) file index (walk_at walk seats)) old seats reply new new_seats
+Answers (calls.Search kind file index target) old seats reply new new_seats = Shows (in_index (state_of old) file index (search_at kind target seats)) old seats reply new new_seats
 Answers calls.Front old seats reply new new_seats = Tells (number (last_number old.history)) old seats reply new new_seats
 Answers calls.Quit old seats reply new new_seats = Tells ok old seats reply new new_seats
 Answers calls.Begin old seats reply new new_seats = Tells unbuilt old seats reply new new_seats

@@ -4,3 +4,7 @@ pub mod Searches
 pub mod Calls
 pub mod Serving
 pub mod Told
+pub mod Undoing
+pub mod Places
+pub mod Looking
+pub mod Making

@@ -17,6 +17,7 @@ use Rattle.ct_pairs.specs.Finds.{least, greatest, is_above, is_below, has_key, i
 use Rattle.ct_isam.specs.declared.session.Seat.{Seat}
 use Rattle.ct_isam.specs.declared.session.KeySet.{KeySet}
 use Rattle.ct_isam.specs.Replies.{Reply, no_file, no_index, icur_err, bad_len, inot_err}
+use Rattle.ct_isam.specs.Seats.{seat_of}
 
 -- the number of the first file of a name
 abbrev pub file_named : List ℕ → State → Option ℕ
@@ -113,8 +114,8 @@ walk_by (Some finder) index rows seat = outcome_of (found_row finder index rows)
 
 -- a search for a key in an index
 abbrev pub search_by : Search → Option (List ℕ) → IndexDef → ℕ → List Row → Seat → Outcome
-search_by search None index place rows seat = refused bad_len
-search_by search (Some key) index place rows seat = outcome_of (found_row (key_finder search key) index rows) (seat_for search place key seat)
+search_by kind None index place rows seat = refused bad_len
+search_by kind (Some key) index place rows seat = outcome_of (found_row (key_finder kind key) index rows) (seat_for kind place key seat)
 
 -- the item at a place, where there is one
 abbrev pub at_item : {A : Type 0} → ℕ → Option A → Outcome → (ℕ → A → Outcome) → Outcome
@@ -130,3 +131,11 @@ at_place (Some place) items refusal look = at_item place (slice_get items place)
 abbrev pub in_index : State → List ℕ → List ℕ → (ℕ → File → ℕ → IndexDef → Outcome) → Outcome
 in_index state name index look = at_place (file_named name state) state (refused no_file)
     (λ f file. at_place (index_named index file.def) file.def.indexes (refused no_index) (look f file))
+
+-- a search without a target, in an index of a file, where the session keeps these seats
+abbrev pub walk_at : Walk → List Seat → ℕ → File → ℕ → IndexDef → Outcome
+walk_at walk seats f file place index = walk_by (walk_finder walk index place (seat_of f seats)) index file.records (seat_of f seats)
+
+-- a search for a target there
+abbrev pub search_at : Search → List ℕ → List Seat → ℕ → File → ℕ → IndexDef → Outcome
+search_at kind target seats f file place index = search_by kind (sought_key kind index target) index place file.records (seat_of f seats)

@@ -5,7 +5,10 @@ ghost use Rattle.ct_yard.specs.Yards.{IsSettled};
 ghost use Rattle.ct_isam.specs.Serving.{Serves};
 ghost use Rattle.ct_isam.specs.Told.{reply_of};
 
+use crate::adding::add;
+use crate::creating::create;
 use crate::reply::Reply;
+use crate::searching::{search_for, walk};
 use crate::session::Session;
 use ct_disk::Disk;
 use ct_line::Call;
@@ -26,5 +29,46 @@ pub fn answer<P: Disk, L: Disk>(
     ensures settled { IsSettled yard.new }
     ensures pages { yard.new.pages ≡ yard.old.pages }
 {
-    Reply::Memory
+    match call {
+        Call::Create(file) => create(alloc, yard, &file),
+        Call::Add { file, image } => add(alloc, yard, session, file.as_slice(), image),
+        Call::Walk {
+            walk: kind,
+            file,
+            index,
+        } => walk(
+            alloc,
+            &yard.state,
+            session,
+            kind,
+            file.as_slice(),
+            index.as_slice(),
+        ),
+        Call::Search {
+            search,
+            file,
+            index,
+            target,
+        } => search_for(
+            alloc,
+            &yard.state,
+            session,
+            search,
+            file.as_slice(),
+            index.as_slice(),
+            target.as_slice(),
+        ),
+        Call::Front => Reply::Number(yard.front),
+        Call::Quit => Reply::Ok,
+        Call::Begin
+        | Call::Commit
+        | Call::Abort
+        | Call::Save
+        | Call::Restore { .. }
+        | Call::Lock(_)
+        | Call::Rewrite { .. }
+        | Call::Delete { .. }
+        | Call::Checkpoint
+        | Call::Dump { .. } => Reply::Unbuilt,
+    }
 }

@@ -2,8 +2,13 @@
 //! What each call answers and leaves is said in `specs/Calls.antt` and `specs/Searches.antt`.
 #![tactic(auto)]
 
+mod adding;
 mod answering;
+mod creating;
+mod finding;
+mod places;
 mod reply;
+mod searching;
 mod session;
 
 pub use answering::answer;

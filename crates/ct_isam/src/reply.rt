@@ -1,6 +1,7 @@
 //! What a call answers, before it is written as a line.
 
 use ct_disk::HaltCause;
+use ct_yard::CommitFault;
 
 /// The answer of a call.
 #[derive(Clone, Copy, Debug, PartialEq, Eq)]
@@ -22,4 +23,18 @@ pub enum Reply {
     NotFound,
     Halted(HaltCause),
     Memory,
+}
+
+impl From<CommitFault> for Reply {
+    ghost use Rattle.std.specs.Prelude.{◌≡◌};
+    ghost use Rattle.ct_isam.specs.Making.{told_of};
+
+    ghost from_gives = { λ fault reply. reply ≡ told_of fault };
+
+    fn from(fault: CommitFault) -> Reply {
+        match fault {
+            CommitFault::Memory => Reply::Memory,
+            CommitFault::Halted(cause) => Reply::Halted(cause),
+        }
+    }
 }
