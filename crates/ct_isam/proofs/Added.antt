@@ -1,12 +1,22 @@
 -- Why a record is refused, and duplicates under a number that no record has.
-use Rattle.std.proofs.Common.{◌≡◌, ℕ, List, [], ◌∷◌, length, Bool, true, false, not, cond, ◌&&◌, ◌||◌, Option, Some, None, is_none, refl, sym, ap, ◌∙◌, eqb, find, option_map}
+use Rattle.std.proofs.Common.{◌≡◌, ℕ, ◌<◌, ◌≤◌, List, [], ◌∷◌, length, Bool, true, false, not, cond, ◌&&◌, ◌||◌, Option, Some, None, is_none, refl, sym, ap, subst, ◌∙◌, eqb, find, option_map, slice_get, arith}
 use Rattle.std.specs.List.{list_any}
+use Rattle.std.proofs.lemmas.Bool.{and_parts}
+use Rattle.std.proofs.lemmas.Bool.Decides.{nat_tests}
+use Rattle.std.proofs.lemmas.Option.{slice_get_within}
 use Rattle.ct_definitions.specs.declared.definition.IndexDef.{IndexDef}
+use Rattle.ct_definitions.specs.declared.definition.Kind.{Kind}
+use Rattle.ct_definitions.specs.declared.definition.Kind.TheVariants.{Fixed, Variable}
+use Rattle.ct_definitions.specs.declared.definition.TheConstants.{LONGEST_IMAGE}
+use Rattle.ct_definitions.specs.Validity.{is_valid_kind}
+use Rattle.ct_model.specs.Fitting.{is_fitting, takes_len_in}
+use Rattle.ct_model.specs.Free.{IsFree}
+use Rattle.ct_model.specs.Stored.{records_at, records_in}
 use Rattle.ct_definitions.specs.declared.store.Row.{Row}
 use Rattle.ct_definitions.specs.declared.store.File.{File}
 use Rattle.ct_definitions.specs.Keys.{key_of}
 use Rattle.ct_definitions.specs.Room.{image_at, has_fitting_len}
-use Rattle.ct_definitions.specs.Changes.{is_same_key, is_taken_in, has_taken_key}
+use Rattle.ct_definitions.specs.Changes.{State, is_same_key, is_taken_in, has_taken_key, passes}
 use Rattle.ct_isam.specs.Calls.{is_key_in, is_duplicate, add_refusal}
 use Rattle.ct_isam.specs.Replies.{bad_len, kdup_err}
 
@@ -49,3 +59,29 @@ duplicate image file fits there = rw (fits, there) refl
 pub allowed_by : (from_one free fits taken room : Bool) → from_one ≡ true → free ≡ true → fits ≡ true → taken ≡ false → room ≡ true
     → ((from_one && free) && ((fits && not taken) && room)) ≡ true
 allowed_by from_one free fits taken room a b c d e = rw (a, b, c, d, e) refl
+
+-- ---- a file of the state
+
+-- the file is one of the state's
+pub there : (state : State) (f : ℕ) (file : File) → slice_get state f ≡ Some file → f < length state
+there state f file at = slice_get_within state f file at
+
+-- its images may have the length
+pub takes : (state : State) (f : ℕ) (file : File) (len : ℕ) → slice_get state f ≡ Some file → has_fitting_len file.def.kind len ≡ true → takes_len_in (slice_get state f) len ≡ true
+takes state f file len at fits = ap (λ (o : Option File). takes_len_in o len) at ∙ fits
+
+-- a number that is free there
+pub free_there : (state : State) (f : ℕ) (file : File) (num len : ℕ) → slice_get state f ≡ Some file → IsFree num len (records_at state f) → IsFree num len file.records
+free_there state f file num len at free = subst (λ (o : Option File). IsFree num len (records_in o)) at free
+
+-- a key that is taken there
+pub taken_there : (state : State) (f : ℕ) (file : File) (num : ℕ) (image : List ℕ) (taken : Bool) → slice_get state f ≡ Some file → taken ≡ passes (slice_get state f) (λ g. has_taken_key g num image) → has_taken_key file num image ≡ taken
+taken_there state f file num image taken at is = sym (is ∙ ap (λ (o : Option File). passes o (λ g. has_taken_key g num image)) at)
+
+-- an image that a fitting file may have is not longer than any may be
+pub short_image : (file : File) (len : ℕ) → is_fitting file ≡ true → has_fitting_len file.def.kind len ≡ true → len ≤ LONGEST_IMAGE
+short_image file len fitting fits = short_by file.def.kind len (and_parts _ _ (and_parts _ _ (and_parts _ _ (and_parts _ _ (and_parts _ _ fitting).0).0).0).0).1 fits
+  where
+    short_by : (kind : Kind) (len : ℕ) → is_valid_kind kind ≡ true → has_fitting_len kind len ≡ true → len ≤ LONGEST_IMAGE
+    short_by (Fixed fixed) len valid fits = grind (arith, nat_tests)
+    short_by (Variable min max) len valid fits = grind (arith, nat_tests)

@@ -2,6 +2,7 @@
 use Rattle.std.specs.Prelude.{◌≡◌, ◌⊎◌, ℕ, List, true, slice_get, Option, Some, None}
 use Rattle.ct_definitions.specs.declared.definition.IndexDef.{IndexDef}
 use Rattle.ct_definitions.specs.declared.store.File.{File}
+use Rattle.ct_definitions.specs.Reached.{rise_above}
 use Rattle.ct_model.specs.Fitting.{is_fitting}
 use Rattle.ct_isam.specs.declared.session.Seat.{Seat}
 use Rattle.ct_isam.specs.declared.places.NamedFile.{NamedFile}
@@ -17,10 +18,12 @@ pub record IsNamed (name : List ℕ) (state : List File) (named : NamedFile) : T
   pub number : file_named name state ≡ Some named.file
   pub found : slice_get state named.file ≡ Some named.found.now
   pub fitting : is_fitting named.found.now ≡ true
+  pub rising : rise_above 0 named.found.now.records ≡ true
 
--- an index of a file whose records fit it
+-- an index of a file whose records fit it and have rising numbers
 pub record IsIndex (place : Place) : Type 0 where
   pub fitting : is_fitting place.found.now ≡ true
+  pub rising : rise_above 0 place.found.now.records ≡ true
   pub def : slice_get place.found.now.def.indexes place.index ≡ Some place.def.now
 
 -- and the file is one of the state

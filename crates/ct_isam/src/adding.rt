@@ -16,7 +16,7 @@ use crate::reply::Reply;
 use crate::session::Session;
 use ct_disk::Disk;
 use ct_items::{Items, NoMemory};
-use ct_model::{Bytes, Change, File, Row, has_fitting_len, has_taken_key, lowest_free};
+use ct_model::{Bytes, Change, File, Row, State, has_fitting_len, has_taken_key, lowest_free};
 use ct_yard::Yard;
 use std::alloc::Global;
 
@@ -38,7 +38,7 @@ pub(crate) fn add<P: Disk, L: Disk>(
         Ok(named) => named,
         Err(refusal) => return refusal,
     };
-    let num = match number_for(alloc, found, image.as_slice()) {
+    let num = match number_for(alloc, &yard.state, file, found, image.as_slice()) {
         Ok(num) => num,
         Err(refusal) => return refusal,
     };
@@ -46,8 +46,15 @@ pub(crate) fn add<P: Disk, L: Disk>(
 }
 
 /// The number of a new record, where it is not refused.
-fn number_for(alloc: Global, found: &File, image: &[u8]) -> Result<u64, Reply>
-    requires { is_fitting found.now ≡ true }
+fn number_for(
+    alloc: Global,
+    state: &State,
+    file: u16,
+    found: &File,
+    image: &[u8],
+) -> Result<u64, Reply>
+    requires file { slice_get state.now file ≡ Some found.now }
+    requires fitting { is_fitting found.now ≡ true }
     ensures free { IfOk result (λ num. nat_le 1 num && is_none (image_at num found.now.records) && may_stand found.now num image.now ≡ true) }
     ensures fine { IfOk result (λ num. add_refusal image.now found.now ≡ None) }
     ensures err { IfErr result (IsRefusedBy (add_refusal image.now found.now)) }
@@ -55,10 +62,10 @@ fn number_for(alloc: Global, found: &File, image: &[u8]) -> Result<u64, Reply>
     if !has_fitting_len(found.def.kind, image.len()) {
         return Err(Reply::BadLen);
     }
-    let Some(num) = lowest_free(found, image.len()) else {
+    let Some(num) = lowest_free(state, file, image.len()) else {
         return Err(Reply::Memory);
     };
-    if has_taken_key(alloc, found, num, image) {
+    if has_taken_key(alloc, state, file, num, image) {
         return Err(Reply::Duplicate);
     }
     Ok(num)

@@ -86,8 +86,8 @@ fn walked(
     ensures { IsFoundBy (walk_finder walk place.now.def.now place.now.index (seat_of place.now.file session.now)) place.now.def.now place.now.found.now.records result }
 {
     match walk {
-        Walk::First => sought(alloc, state, place, Seek::First),
-        Walk::Last => sought(alloc, state, place, Seek::Last),
+        Walk::First => sought(state, place, Seek::First),
+        Walk::Last => sought(state, place, Seek::Last),
         Walk::Next => next(alloc, state, session, place),
         Walk::Prev => previous(alloc, state, session, place),
         Walk::NextSet => next_of_set(alloc, state, session, place),
@@ -95,19 +95,11 @@ fn walked(
 }
 
 /// The number of the record that is found.
-fn sought(
-    alloc: Global,
-    state: &State,
-    place: &Place<'_>,
-    seek: Seek<'_>,
-) -> Result<Option<u64>, Reply>
+fn sought(state: &State, place: &Place<'_>, seek: Seek<'_>) -> Result<Option<u64>, Reply>
     requires { IsPlace state.now place.now }
     ensures { IsFoundBy (Some (found_pair seek.entry)) place.now.def.now place.now.found.now.records result }
 {
-    match found_num(alloc, state, place, seek) {
-        Ok(num) => Ok(num),
-        Err(NoMemory) => Err(Reply::Memory),
-    }
+    Ok(found_num(state, place, seek))
 }
 
 /// The number of the record behind the session's current one.
@@ -121,7 +113,7 @@ fn next(
     ensures { IsFoundBy (walk_finder Walk.Next place.now.def.now place.now.index (seat_of place.now.file session.now)) place.now.def.now place.now.found.now.records result }
 {
     match pair_of_current(alloc, session.current(place.file), place) {
-        Ok(pair) => sought(alloc, state, place, Seek::Next(&pair)),
+        Ok(pair) => sought(state, place, Seek::Next(&pair)),
         Err(refusal) => Err(refusal),
     }
 }
@@ -137,7 +129,7 @@ fn previous(
     ensures { IsFoundBy (walk_finder Walk.Prev place.now.def.now place.now.index (seat_of place.now.file session.now)) place.now.def.now place.now.found.now.records result }
 {
     match pair_of_current(alloc, session.current(place.file), place) {
-        Ok(pair) => sought(alloc, state, place, Seek::Prev(&pair)),
+        Ok(pair) => sought(state, place, Seek::Prev(&pair)),
         Err(refusal) => Err(refusal),
     }
 }
@@ -159,12 +151,7 @@ fn next_of_set(
         return Err(Reply::NoCurrent);
     }
     match pair_of_current(alloc, session.current(place.file), place) {
-        Ok(pair) => sought(
-            alloc,
-            state,
-            place,
-            Seek::NextInSet(&pair, set.front.as_slice()),
-        ),
+        Ok(pair) => sought(state, place, Seek::NextInSet(&pair, set.front.as_slice())),
         Err(refusal) => Err(refusal),
     }
 }
@@ -205,16 +192,14 @@ fn search_in(
     let Some(key) = key_sought(alloc, kind, place, target) else {
         return Reply::BadLen;
     };
-    match found_num(alloc, state, place, seek_of(kind, key.as_slice())) {
-        Ok(num) => show(
-            alloc,
-            session,
-            place,
-            num,
-            set_begun(kind, place.index, key),
-        ),
-        Err(NoMemory) => Reply::Memory,
-    }
+    let num = found_num(state, place, seek_of(kind, key.as_slice()));
+    show(
+        alloc,
+        session,
+        place,
+        num,
+        set_begun(kind, place.index, key),
+    )
 }
 
 /// The key, or for a set its first bytes, that the target becomes.
@@ -285,6 +270,7 @@ fn show(
     num: Option<u64>,
     set: Option<KeySet>,
 ) -> Reply
+    requires { IsIndex place.now }
     ensures { Looks (outcome_of (row_numbered num place.now.found.now.records) (seat_with set (seat_of place.now.file session.old))) session.old (reply_of session.new result) session.new }
 {
     let Some(num) = num else {

@@ -3,6 +3,7 @@ use Rattle.std.specs.List.{position, list_all}
 use Rattle.std.proofs.lemmas.List.Quantifiers.{position-Some}
 use Rattle.std.proofs.lemmas.Option.{slice_get_read}
 use Rattle.ct_definitions.specs.declared.store.File.{File}
+use Rattle.ct_definitions.specs.Reached.{rise_above}
 use Rattle.ct_model.specs.Fitting.{is_fitting}
 use Rattle.ct_model.proofs.KeysRead.{list_all-get_or}
 use Rattle.ct_isam.proofs.places.named_file.Goals as goal
@@ -20,4 +21,5 @@ returns-in-Ok-clause-ok c =
       number = sym c.in-Some.ensures ∙ ap Some (sym same);
       found = subst (λ (n : ℕ). slice_get state n ≡ Some file) (sym same) there;
       fitting = subst (λ (f : File). is_fitting f ≡ true) (sym read) (list_all-get_or is_fitting state place file c.files.ensures.fitting within);
+      rising = subst (λ (f : File). rise_above 0 f.records ≡ true) (sym read) (list_all-get_or (λ (f : File). rise_above 0 f.records) state place file c.files.ensures.rising within);
     }
