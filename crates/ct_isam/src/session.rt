@@ -42,6 +42,9 @@ impl Model for Session {
 }
 
 impl Session {
+    ghost use Rattle.std.specs.Option.{option_copied};
+    ghost use Rattle.ct_isam.specs.Seats.{seat_of};
+
     /// A session that has used no file.
     pub fn new(alloc: Global) -> Session
         ensures { result ≡ [] }
@@ -49,5 +52,18 @@ impl Session {
         Session {
             seats: Items::new(alloc),
         }
+    }
+
+    /// The current record of a file, where the session has one.
+    pub fn current(&self, file: u16) -> Option<&Row>
+        ensures { option_copied result ≡ (seat_of file self.now).current }
+    {
+        let seats = self.seats.as_slice();
+        for seat in seats {
+            if seat.file == file {
+                return seat.current.as_ref();
+            }
+        }
+        None
     }
 }
