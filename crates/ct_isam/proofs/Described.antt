@@ -1,7 +1,7 @@
 -- Numbers that are too great for a definition make it not valid, and why a file is not made.
-use Rattle.std.proofs.Common.{◌≡◌, ◌⊎◌, ℕ, zero, suc, ◌+◌, ◌^◌, ◌<◌, ◌≤◌, List, [], ◌∷◌, length, map, get_or, Bool, true, false, not, ◌&&◌, Option, Some, None, if◌then◌else◌, refl, sym, ap, ◌∙◌, inl, inr, leb, ltb, eqb, arith}
+use Rattle.std.proofs.Common.{◌≡◌, ◌⊎◌, ℕ, zero, suc, ◌+◌, ◌<◌, ◌≤◌, List, [], ◌∷◌, length, map, get_or, Bool, true, false, not, ◌&&◌, Some, None, if◌then◌else◌, refl, inl, inr, leb, ltb, arith}
 use Rattle.std.specs.List.{list_all}
-use Rattle.std.proofs.lemmas.Bool.{lt-leb, leb-true, lt-ltb, le-ltb, eq-eqb, and_left, and_right, and_parts, cases_Bool}
+use Rattle.std.proofs.lemmas.Bool.{lt-leb, lt-ltb, le-ltb, eq-eqb, and_left, and_right, cases_Bool}
 use Rattle.std.proofs.lemmas.Bool.Decides.{nat_tests}
 use Rattle.ct_definitions.specs.declared.definition.FileDef.{FileDef}
 use Rattle.ct_definitions.specs.declared.definition.IndexDef.{IndexDef}

@@ -1,5 +1,5 @@
 -- What refusals and finds mean for the outcome of a search.
-use Rattle.std.proofs.Common.{◌≡◌, ℕ, zero, suc, ◌+◌, ◌-◌, ◌<◌, ◌≤◌, List, [], ◌∷◌, length, get_or, Bool, true, false, cond, ◌&&◌, ◌||◌, Option, Some, None, Result, Ok, Err, refl, sym, ap, ◌∙◌, subst, inl, inr, eqb, ltb, leb, arith, slice_get}
+use Rattle.std.proofs.Common.{◌≡◌, ℕ, ◌+◌, ◌-◌, ◌≤◌, List, [], ◌∷◌, length, Bool, true, false, ◌||◌, Option, Some, None, Result, Ok, Err, refl, sym, ap, ◌∙◌, subst, inl, inr, eqb, ltb, leb, arith}
 use Rattle.std.specs.List.{list_all}
 use Rattle.std.proofs.lemmas.Bool.{leb-true, eq-eqb, ne_eqb, le-ltb, and_parts}
 use Rattle.std.proofs.lemmas.Bool.Decides.{nat_tests}
@@ -10,7 +10,6 @@ use Rattle.ct_definitions.specs.declared.definition.Mode.{Mode}
 use Rattle.ct_definitions.specs.declared.definition.Mode.TheVariants.{Reg, Ureg, Int, Sgn}
 use Rattle.ct_definitions.specs.declared.definition.Seg.{Seg}
 use Rattle.ct_definitions.specs.declared.definition.TheConstants.{LONGEST_KEY}
-use Rattle.ct_definitions.specs.declared.store.File.{File}
 use Rattle.ct_definitions.specs.declared.store.Row.{Row}
 use Rattle.ct_definitions.specs.Pairs.{Pair, pairs_of}
 use Rattle.ct_definitions.specs.Room.{has_fitting_len}
@@ -18,14 +17,14 @@ use Rattle.ct_definitions.specs.Validity.{key_len, is_valid_index, is_valid_seg,
 use Rattle.ct_key.specs.Target.{is_refused, ends_in_number, target_from, target_bytes}
 use Rattle.ct_line.specs.declared.call.Search.{Search}
 use Rattle.ct_line.specs.declared.call.Search.TheVariants as searches
-use Rattle.ct_model.specs.Fitting.{is_fitting, reads_keys}
+use Rattle.ct_model.specs.Fitting.{reads_keys}
 use Rattle.ct_model.proofs.KeysRead.{list_all-get_or, reads_keys-at}
 use Rattle.ct_isam.specs.declared.places.Place.{Place}
 use Rattle.ct_isam.specs.declared.session.KeySet.{KeySet}
 use Rattle.ct_isam.specs.declared.session.Seat.{Seat}
 use Rattle.ct_isam.specs.declared.reply.Reply.{Reply as Told}
 use Rattle.ct_isam.specs.declared.reply.Reply.TheVariants as told
-use Rattle.ct_isam.specs.Replies.{Reply, found}
+use Rattle.ct_isam.specs.Replies.{Reply}
 use Rattle.ct_isam.specs.Seats.{seat_of, with_seat}
 use Rattle.ct_isam.specs.Searches.{Finder, Outcome, refused, finds, row_of, walk_by, search_by, outcome_of, key_finder, seat_for, whole_key, next_in_set, next_of_set}
 use Rattle.ct_isam.specs.Places.{IsIndex, IsRefusal}

@@ -1,5 +1,5 @@
 -- How the seats of a session are found, changed and put back.
-use Rattle.std.proofs.Common.{◌≡◌, ℕ, zero, suc, ◌+◌, ◌-◌, ◌<◌, ◌≤◌, List, [], ◌∷◌, ◌++◌, length, take, set, get_or, Bool, true, false, cond, Option, Some, None, refl, sym, ap, ◌∙◌, subst, eqb, ltb, find, arith}
+use Rattle.std.proofs.Common.{◌≡◌, ℕ, zero, suc, ◌<◌, ◌≤◌, List, [], ◌∷◌, ◌++◌, length, set, get_or, Bool, true, false, cond, Option, Some, None, refl, sym, ap, ◌∙◌, eqb, find, arith}
 use Rattle.std.specs.List.{position, position_or_len}
 use Rattle.std.proofs.lemmas.Bool.{eqb-true, eq-eqb, ltb-false}
 use Rattle.std.proofs.lemmas.List.Quantifiers.{position-Some}
@@ -7,10 +7,9 @@ use Rattle.std.proofs.lemmas.List.Sums.{fails_before_first}
 use Rattle.ct_definitions.specs.declared.store.Row.{Row}
 use Rattle.ct_isam.specs.declared.session.KeySet.{KeySet}
 use Rattle.ct_isam.specs.declared.session.Seat.{Seat}
-use Rattle.ct_isam.specs.declared.session.Before.TheVariants.{Unused, Used}
 use Rattle.ct_isam.specs.Seats.{unused_seat, seat_of, with_seat, with_current}
 use Rattle.ct_isam.specs.Looking.{seat_with}
-use Rattle.ct_isam.specs.Undoing.{with_old, put_back}
+use Rattle.ct_isam.specs.Undoing.{with_old}
 
 -- whether a seat is a file's
 abbrev pub is_of : ℕ → Seat → Bool

@@ -1,13 +1,11 @@
 -- What a reply means for the machine that a yard stands for.
-use Rattle.std.proofs.Common.{◌≡◌, ◌⊎◌, ℕ, List, length, Bool, IsTrue, true, false, Option, Some, None, Result, Ok, Err, refl, sym, ap, ◌∙◌, subst, inl, inr, slice_get, MatchOption}
+use Rattle.std.proofs.Common.{◌≡◌, ℕ, List, length, Bool, IsTrue, true, Option, Some, None, Result, Ok, Err, refl, sym, ap, ◌∙◌, subst, inl, inr, slice_get, MatchOption}
 use Rattle.ct_definitions.specs.declared.definition.FileDef.{FileDef}
 use Rattle.ct_definitions.specs.declared.store.File.{File}
 use Rattle.ct_definitions.specs.declared.change.Change.{Change}
 use Rattle.ct_definitions.specs.declared.change.Change.TheVariants.{Make, Add}
 use Rattle.ct_definitions.specs.Changes.{State, allows}
 use Rattle.ct_definitions.specs.Histories.{last_number}
-use Rattle.ct_disk.specs.declared.turn.HaltCause.{HaltCause}
-use Rattle.ct_line.specs.declared.call.Call.{Call}
 use Rattle.ct_line.specs.declared.call.Call.TheVariants as calls
 use Rattle.ct_line.specs.declared.call.NewFile.{NewFile}
 use Rattle.ct_line.specs.declared.call.Walk.{Walk}
@@ -19,8 +17,7 @@ use Rattle.ct_yard.specs.Machine.{Machine, Commits, state_of}
 use Rattle.ct_yard.specs.Yards.{StandsFor, KeptThrough}
 use Rattle.ct_isam.specs.declared.session.Seat.{Seat}
 use Rattle.ct_isam.specs.declared.reply.Reply.{Reply as Told}
-use Rattle.ct_isam.specs.declared.reply.Reply.TheVariants as told
-use Rattle.ct_isam.specs.Replies.{Reply, number, no_memory, halt_err}
+use Rattle.ct_isam.specs.Replies.{Reply, number, halt_err}
 use Rattle.ct_isam.specs.Seats.{with_current}
 use Rattle.ct_isam.specs.Searches.{Outcome, refused, finds, file_named, in_index, walk_at, search_at}
 use Rattle.ct_isam.specs.Looking.{IsShown, Looks}

@@ -1,5 +1,5 @@
 -- What a running store and a session answer to a call, and what they are then.
-use Rattle.std.specs.Prelude.{◌≡◌, ◌⊎◌, ℕ, List, length, map, Bool, true, false, not, ◌&&◌, MatchOption, slice_get, nat_lt, if◌then◌else◌, Option, Some, None}
+use Rattle.std.specs.Prelude.{◌≡◌, ◌⊎◌, ℕ, List, length, map, Bool, true, not, ◌&&◌, MatchOption, slice_get, nat_lt, if◌then◌else◌, Option, Some, None}
 use Rattle.std.specs.List.{list_any}
 use Rattle.ct_definitions.specs.declared.definition.FileDef.{FileDef}
 use Rattle.ct_definitions.specs.declared.definition.IndexDef.{IndexDef}

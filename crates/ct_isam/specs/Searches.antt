@@ -1,5 +1,5 @@
 -- What a search asks for, and what it comes to.
-use Rattle.std.specs.Prelude.{ℕ, List, Bool, true, ◌&&◌, ◌==◌, length, position, bytes_eq, slice_get, if◌then◌else◌, Option, Some, None, option_map}
+use Rattle.std.specs.Prelude.{ℕ, List, true, ◌&&◌, ◌==◌, length, position, bytes_eq, slice_get, if◌then◌else◌, Option, Some, None, option_map}
 use Rattle.ct_definitions.specs.declared.definition.FileDef.{FileDef}
 use Rattle.ct_definitions.specs.declared.definition.IndexDef.{IndexDef}
 use Rattle.ct_definitions.specs.declared.store.File.{File}

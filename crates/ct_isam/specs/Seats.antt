@@ -1,5 +1,5 @@
 -- What a session keeps of the files that it uses: of each a current record and a set.
-use Rattle.std.specs.Prelude.{ℕ, List, [], ◌∷◌, Bool, ◌==◌, if◌then◌else◌, Option, Some, None}
+use Rattle.std.specs.Prelude.{ℕ, List, [], ◌∷◌, ◌==◌, if◌then◌else◌, Some, None}
 use Rattle.ct_definitions.specs.declared.store.Row.{Row}
 use Rattle.ct_isam.specs.declared.session.Seat.{Seat}
 

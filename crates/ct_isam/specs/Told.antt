@@ -1,5 +1,5 @@
 -- What a call's answer tells, with the record that the session then has.
-use Rattle.std.specs.Prelude.{ℕ, List, Option, Some, None}
+use Rattle.std.specs.Prelude.{List, Option, Some, None}
 use Rattle.ct_definitions.specs.declared.store.Row.{Row}
 use Rattle.ct_isam.specs.declared.session.Seat.{Seat}
 use Rattle.ct_isam.specs.declared.reply.Reply.{Reply as Told}

@@ -10,6 +10,8 @@ mod places;
 mod reply;
 mod searching;
 mod session;
+#[cfg(test)]
+mod tests;
 
 pub use answering::answer;
 pub use reply::Reply;

@@ -1,4 +1,4 @@
-use Rattle.std.proofs.Common.{◌≡◌, List, ℕ, None, sym, ap, ◌∙◌}
+use Rattle.std.proofs.Common.{List, ℕ, sym, ap, ◌∙◌}
 use Rattle.ct_isam.specs.Calls.{add_refusal}
 use Rattle.ct_isam.specs.Told.{reply_of}
 use Rattle.ct_isam.proofs.Served.{added_serves}

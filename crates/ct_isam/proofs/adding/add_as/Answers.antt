@@ -1,4 +1,4 @@
-use Rattle.std.proofs.Common.{◌≡◌, ℕ, List, Ok, Err, true, sym, ap, ◌∙◌}
+use Rattle.std.proofs.Common.{◌≡◌, ℕ, List, Ok, Err, ap, ◌∙◌}
 use Rattle.ct_definitions.specs.declared.change.Change.TheVariants.{Add}
 use Rattle.ct_definitions.specs.Changes.{State, allows}
 use Rattle.ct_isam.specs.Replies.{number}

@@ -1,6 +1,6 @@
-use Rattle.std.proofs.Common.{◌≡◌, true, sym, ◌∙◌, refl, inr, length}
+use Rattle.std.proofs.Common.{sym, ◌∙◌, refl, inr, length}
 use Rattle.std.proofs.lemmas.Bool.{and_parts}
-use Rattle.ct_isam.proofs.Added.{taken_is_duplicate, fine, duplicate, there, takes, free_there, taken_there, short_image}
+use Rattle.ct_isam.proofs.Added.{taken_is_duplicate, fine, duplicate, there, takes, free_there, taken_there}
 use Rattle.ct_isam.proofs.adding.number_for.Goals as goal
 
 pub lowest_free-requires-clause-file : goal.lowest_free-requires-clause-file

@@ -1,4 +1,4 @@
-use Rattle.std.proofs.Common.{◌≡◌, List, ℕ, sym, subst}
+use Rattle.std.proofs.Common.{◌≡◌, sym, subst}
 use Rattle.ct_line.specs.declared.call.Call.{Call}
 use Rattle.ct_line.specs.declared.call.Call.TheVariants as calls
 use Rattle.ct_isam.specs.Serving.{Serves}

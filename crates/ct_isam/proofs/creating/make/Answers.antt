@@ -1,9 +1,9 @@
-use Rattle.std.proofs.Common.{◌≡◌, ℕ, List, length, Ok, Err, None, sym, ap, ◌∙◌, subst}
+use Rattle.std.proofs.Common.{ℕ, List, length, Ok, Err, sym, ap, ◌∙◌, subst}
 use Rattle.ct_definitions.specs.declared.store.File.{File}
 use Rattle.ct_definitions.specs.declared.change.Change.TheVariants.{Make}
 use Rattle.ct_definitions.specs.Changes.{State}
 use Rattle.ct_line.specs.declared.call.Call.TheVariants as calls
-use Rattle.ct_yard.specs.Machine.{Commits, state_of}
+use Rattle.ct_yard.specs.Machine.{Commits}
 use Rattle.ct_isam.specs.Calls.{Replies, create_refusal}
 use Rattle.ct_isam.specs.Replies.{number}
 use Rattle.ct_isam.specs.Told.{reply_of}

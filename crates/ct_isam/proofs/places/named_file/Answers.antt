@@ -1,5 +1,4 @@
 use Rattle.std.proofs.Common.{◌≡◌, ℕ, ◌<◌, List, length, true, Some, refl, sym, ap, ◌∙◌, subst, arith, get_or, slice_get, bytes_eq}
-use Rattle.std.specs.List.{position, list_all}
 use Rattle.std.proofs.lemmas.List.Quantifiers.{position-Some}
 use Rattle.std.proofs.lemmas.Option.{slice_get_read}
 use Rattle.ct_definitions.specs.declared.store.File.{File}

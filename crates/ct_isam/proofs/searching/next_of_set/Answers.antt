@@ -1,4 +1,4 @@
-use Rattle.std.proofs.Common.{◌≡◌, ℕ, List, Option, Some, sym, ap, ◌∙◌, subst}
+use Rattle.std.proofs.Common.{ℕ, List, Option, Some, sym, ap, ◌∙◌, subst}
 use Rattle.ct_definitions.specs.declared.store.Row.{Row}
 use Rattle.ct_isam.specs.Seats.{seat_of}
 use Rattle.ct_isam.specs.Searches.{current_pair, next_in_set}

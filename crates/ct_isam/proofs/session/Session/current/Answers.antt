@@ -1,4 +1,4 @@
-use Rattle.std.proofs.Common.{◌≡◌, Some, None, sym, ap, ◌∙◌, find}
+use Rattle.std.proofs.Common.{sym, ap, ◌∙◌}
 use Rattle.ct_isam.specs.declared.session.Seat.{Seat}
 use Rattle.ct_isam.proofs.Seats.{found_seat, no_seat}
 use Rattle.ct_isam.proofs.session.Session.current.Goals as goal

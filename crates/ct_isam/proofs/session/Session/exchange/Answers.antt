@@ -1,4 +1,4 @@
-use Rattle.std.proofs.Common.{◌≡◌, Some, None, sym, ap, ◌∙◌}
+use Rattle.std.proofs.Common.{None, sym}
 use Rattle.ct_isam.proofs.Seats.{exchanged, exchanged_back, pushed}
 use Rattle.ct_isam.proofs.session.Session.exchange.Goals as goal
 

@@ -1,4 +1,4 @@
-use Rattle.std.proofs.Common.{◌≡◌, Some, None, sym, ap, ◌∙◌}
+use Rattle.std.proofs.Common.{sym}
 use Rattle.ct_isam.proofs.Seats.{kept_in, pushed}
 use Rattle.ct_isam.proofs.session.Session.keep.Goals as goal
 

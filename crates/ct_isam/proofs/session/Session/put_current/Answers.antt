@@ -1,4 +1,4 @@
-use Rattle.std.proofs.Common.{◌≡◌, Option, Some, None, sym, ap, ◌∙◌, set}
+use Rattle.std.proofs.Common.{Option, sym, ap, ◌∙◌}
 use Rattle.ct_definitions.specs.declared.store.Row.{Row}
 use Rattle.ct_isam.specs.declared.session.Seat.{Seat}
 use Rattle.ct_isam.specs.Seats.{unused_seat}
