@@ -140,9 +140,9 @@ has_at-map at key_len leaf pair [] = refl
 has_at-map zero key_len leaf pair (cell ∷ cells) = refl
 has_at-map (suc at) key_len leaf pair (cell ∷ cells) = has_at-map at key_len leaf pair cells
 
--- what a look at the cell of a pair's place tells
-pub has_pair-from_cell : (n : Inside) (pair : Pair) (at width : ℕ) (slice looked : List ℕ) (found : Bool) → IsNode (value_of n) → at ≡ prefix_len (is_before false pair) (pairs_of n.key_len width n.count slice) → width ≡ width_of n.key_len n.leaf → slice ≡ n.cells → looked ≡ n.cells → found ≡ cell_has at n.key_len pair (cells_of width n.count looked) → found ≡ has_at at pair (entries_of n.key_len n.leaf n.count n.cells)
-has_pair-from_cell n pair at width slice looked found is place_is is_width is_slice is_looked told =
+-- what a look at the cell of a place tells
+pub cell_at-is : (n : Inside) (pair : Pair) (at width : ℕ) (looked : List ℕ) (found : Bool) → width ≡ width_of n.key_len n.leaf → looked ≡ n.cells → found ≡ cell_has at n.key_len pair (cells_of width n.count looked) → found ≡ has_at at pair (entries_of n.key_len n.leaf n.count n.cells)
+cell_at-is n pair at width looked found is_width is_looked told =
     told
     ∙ ap (λ w. cell_has at n.key_len pair (cells_of w n.count looked)) is_width
     ∙ ap (λ s. cell_has at n.key_len pair (cells_of (width_of n.key_len n.leaf) n.count s)) is_looked

@@ -4,3 +4,4 @@ pub mod Searches
 pub mod Entries
 pub mod Edits
 pub mod HalfLemmas
+pub mod Walks

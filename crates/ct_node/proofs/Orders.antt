@@ -291,3 +291,20 @@ filter-rises pair (entry ∷ entries) up = by_test (below entry.pair pair) refl 
 -- the entries without a pair lack the one at its place, or none
 pub filter-is : (pair : Pair) (entries : List Entry) → IsAscending (map pair_in entries) → filter (has_other_pair pair) entries ≡ removed (place pair entries) pair entries
 filter-is pair entries order = filter-rises pair entries (Rises-from_order (map pair_in entries) order)
+
+turned-is_gt : (order : Ordering) → is_gt (ordering_reverse order) ≡ is_lt order
+turned-is_gt Less = refl
+turned-is_gt Equal = refl
+turned-is_gt Greater = refl
+
+-- above, the other way round
+pub is_gt-turned : (a b : Pair) → is_gt (pair_cmp a b) ≡ is_lt (pair_cmp b a)
+is_gt-turned a b = ap is_gt (pair_total.antisymm a b) ∙ turned-is_gt (pair_cmp b a)
+
+pub prefix_len-none : (pairs : List Pair) → prefix_len (λ pair. false) pairs ≡ 0
+prefix_len-none [] = refl
+prefix_len-none (pair ∷ pairs) = refl
+
+pub prefix_len-all : (pairs : List Pair) → prefix_len (λ pair. true) pairs ≡ length pairs
+prefix_len-all [] = refl
+prefix_len-all (pair ∷ pairs) = let rest = prefix_len-all pairs in omega arith

@@ -8,6 +8,8 @@ mod edge;
 mod node;
 mod pair;
 mod target;
+#[cfg(test)]
+mod tests;
 
 pub use node::Node;
 pub use pair::Pair;

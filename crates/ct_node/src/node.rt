@@ -1,16 +1,21 @@
 //! A node: its bounds, its right link and its entries, and the edits of one.
 
 ghost use Rattle.std.specs.Prelude.{◌≡◌, ◌≤◌, ◌<◌, ◌+◌, ◌*◌, [], ◌++◌, length, take, drop, filter, slice_get, false, true, nat_lt, if◌then◌else◌, None};
+ghost use Rattle.std.specs.List.{prefix_len};
 ghost use Rattle.std.specs.Option.{option_map_or};
 ghost use Rattle.std.specs.Ordering.{is_eq};
 ghost use Rattle.ct_definitions.specs.Pairs.{pair_cmp, with_pair};
-ghost use Rattle.ct_node.specs.Nodes.{IsNode, pairs_in, capacity_of, is_within, has_pair, with_entry, has_other_pair};
+ghost use Rattle.ct_node.specs.Nodes.{IsNode, pairs_in, capacity_of, is_from, is_below, is_within, has_pair, with_entry, has_other_pair};
 ghost use Rattle.ct_node.specs.Cells.{cells_of, pair_at};
+ghost use Rattle.ct_node.specs.Places.{is_before, is_past, is_ahead, here, down, next_place};
 ghost use Rattle.ct_node.specs.Halves.{middle_of, upper_half, lower_half};
 
-use crate::cells::{cmp_at, copy_cells, count_before, insert_entry, remove_cell, width_of};
+use crate::cells::{
+    cmp_at, copy_cells, count_before, insert_entry, page_at, remove_cell, width_of,
+};
 use crate::edge::Edge;
 use crate::pair::Pair;
+use crate::target::{Place, Target};
 use std::marker::Model;
 
 /// How many bytes of a page a node has for its bounds and entries.
@@ -116,6 +121,41 @@ impl Node {
         ensures { result ≡ nat_lt (length self.now.entries) (capacity_of self.now.key_len self.now.leaf) }
     {
         self.count < capacity_of(self.key_len, self.leaf)
+    }
+
+    /// Whether it has a pair.
+    pub fn has(&self, pair: &Pair) -> bool
+        ensures { result ≡ has_pair pair.now (pairs_in self.now) }
+    {
+        let width = width_of(self.key_len, self.leaf);
+        let place = self.count_before(pair, false);
+        let cells = self.cells.as_slice();
+        is_cell_of(cells, place, self.count, width, self.key_len, pair)
+    }
+
+    /// Whether a pair is within its bounds.
+    pub fn covers(&self, pair: &Pair) -> bool
+        ensures { result ≡ is_within self.now.low self.now.high pair.now }
+    {
+        self.is_from(pair) && self.is_below(pair)
+    }
+
+    fn is_from(&self, pair: &Pair) -> bool
+        ensures { result ≡ is_from self.now.low pair.now }
+    {
+        let Some(low) = self.low else {
+            return true;
+        };
+        !low.cmp_pair(self.key_len, pair).is_gt()
+    }
+
+    fn is_below(&self, pair: &Pair) -> bool
+        ensures { result ≡ is_below self.now.high pair.now }
+    {
+        let Some(high) = self.high else {
+            return true;
+        };
+        high.cmp_pair(self.key_len, pair).is_gt()
     }
 
     /// Puts a pair into a leaf.
@@ -225,6 +265,86 @@ impl Node {
         self.high = Some(Edge::read(self.cells.as_slice(), middle * width, self.key_len));
         self.right = right;
         self.count = middle;
+    }
+
+    /// Where the walk to a target goes on from this node.
+    pub fn next_place(&self, target: &Target) -> Place
+        ensures { result ≡ next_place self.now target.now }
+    {
+        if self.is_past(target) {
+            return Place::Right(self.right);
+        }
+        if self.leaf {
+            return self.here(self.count_ahead(target, false));
+        }
+        let reached = self.count_ahead(target, true);
+        self.below(reached.saturating_sub(1))
+    }
+
+    /// Whether a target is at or above the high bound.
+    fn is_past(&self, target: &Target) -> bool
+        ensures { result ≡ is_past self.now.high target.now }
+    {
+        let Some(high) = self.high else {
+            return false;
+        };
+        match target {
+            Target::First => false,
+            Target::Last => true,
+            Target::At(pair) => !high.cmp_pair(self.key_len, pair).is_gt(),
+            Target::Before(pair) => high.cmp_pair(self.key_len, pair).is_lt(),
+        }
+    }
+
+    /// How many pairs are below a target, or at it where that counts.
+    fn count_ahead(&self, target: &Target, or_at: bool) -> usize
+        ensures { result ≡ prefix_len (is_ahead or_at target.now) (pairs_in self.now) }
+    {
+        match target {
+            Target::First => 0,
+            Target::Last => self.count(),
+            Target::At(pair) => self.count_before(pair, or_at),
+            Target::Before(pair) => self.count_before(pair, false),
+        }
+    }
+
+    /// How many pairs are below another, or at it where that counts.
+    fn count_before(&self, pair: &Pair, or_at: bool) -> usize
+        ensures { result ≡ prefix_len (is_before or_at pair.now) (pairs_in self.now) }
+    {
+        let width = width_of(self.key_len, self.leaf);
+        count_before(
+            self.cells.as_slice(),
+            self.count,
+            width,
+            self.key_len,
+            pair,
+            or_at,
+        )
+    }
+
+    /// In a leaf at the pair of a place, or behind the last pair.
+    fn here(&self, place: usize) -> Place
+        ensures { result ≡ here (pairs_in self.now) place }
+    {
+        if place < self.count {
+            Place::Here(place)
+        } else {
+            Place::End
+        }
+    }
+
+    /// The page below of the entry at a place of an inner node.
+    fn below(&self, place: usize) -> Place
+        requires { self.now.leaf ≡ false }
+        ensures { result ≡ down (slice_get self.now.entries place) }
+    {
+        if place >= self.count {
+            return Place::End;
+        }
+        let width = width_of(self.key_len, self.leaf);
+        let behind = place * width + self.key_len + 8;
+        Place::Down(page_at(self.cells.as_slice(), behind))
     }
 }
 

@@ -5,7 +5,7 @@ use Rattle.ct_node.specs.Cells.{entries_of}
 use Rattle.ct_node.specs.Stored.{value_of}
 use Rattle.ct_node.proofs.CellLemmas.{step_within}
 use Rattle.ct_node.proofs.Orders.{has_at}
-use Rattle.ct_node.proofs.Edits.{place-from_search, pairs_ascend, cells_within, has_pair-from_cell, has_pair-at, value_of-kept, value_of-taken, without_pair, IsNode-without_pair}
+use Rattle.ct_node.proofs.Edits.{place-from_search, pairs_ascend, cells_within, cell_at-is, has_pair-at, value_of-kept, value_of-taken, without_pair, IsNode-without_pair}
 use Rattle.ct_node.proofs.node.Node.take.Goals as goal
 
 pub count_before-place-requires-clause-cells : goal.count_before-place-requires-clause-cells
@@ -40,7 +40,7 @@ returns-then-not-is_cell_of-clause-found c =
     let n = c.self.inside in
     let pair = c.args.pair.now in
     let place_is = place-from_search n pair c.count_before-place.result c.width_of-width.result c.as_slice-cells.result.now c.count_before-place.ensures.before c.width_of-width.ensures c.as_slice-cells.ensures in
-    let told = has_pair-from_cell n pair c.count_before-place.result c.width_of-width.result c.as_slice-cells.result.now c.as_slice.result.now c.is_cell_of.result c.self.invariant c.count_before-place.ensures.before c.width_of-width.ensures c.as_slice-cells.ensures c.as_slice.ensures c.is_cell_of.ensures.pair in
+    let told = cell_at-is n pair c.count_before-place.result c.width_of-width.result c.as_slice.result.now c.is_cell_of.result c.width_of-width.ensures c.as_slice.ensures c.is_cell_of.ensures.pair in
     sym c.if-not-is_cell_of.true ∙ told ∙ sym (has_pair-at n pair c.count_before-place.result c.self.invariant place_is) ∙ ap (λ (value : NodeValue). has_pair pair (pairs_in value)) c.self.view_is
 
 pub returns-then-not-is_cell_of-clause-node : goal.returns-then-not-is_cell_of-clause-node
@@ -48,7 +48,7 @@ returns-then-not-is_cell_of-clause-node c =
     let n = c.self.inside in
     let pair = c.args.pair.now in
     let place_is = place-from_search n pair c.count_before-place.result c.width_of-width.result c.as_slice-cells.result.now c.count_before-place.ensures.before c.width_of-width.ensures c.as_slice-cells.ensures in
-    let told = has_pair-from_cell n pair c.count_before-place.result c.width_of-width.result c.as_slice-cells.result.now c.as_slice.result.now c.is_cell_of.result c.self.invariant c.count_before-place.ensures.before c.width_of-width.ensures c.as_slice-cells.ensures c.as_slice.ensures c.is_cell_of.ensures.pair in
+    let told = cell_at-is n pair c.count_before-place.result c.width_of-width.result c.as_slice.result.now c.is_cell_of.result c.width_of-width.ensures c.as_slice.ensures c.is_cell_of.ensures.pair in
     subst (λ (value : NodeValue). value ≡ without_pair value pair) c.self.view_is (value_of-kept n pair c.count_before-place.result c.self.invariant place_is (sym told ∙ c.if-not-is_cell_of.true))
 
 pub overflow_mul-place : goal.overflow_mul-place
@@ -76,7 +76,7 @@ invariant_of-self c =
     let n = c.self.inside in
     let pair = c.args.pair.now in
     let place_is = place-from_search n pair c.count_before-place.result c.width_of-width.result c.as_slice-cells.result.now c.count_before-place.ensures.before c.width_of-width.ensures c.as_slice-cells.ensures in
-    let told = has_pair-from_cell n pair c.count_before-place.result c.width_of-width.result c.as_slice-cells.result.now c.as_slice.result.now c.is_cell_of.result c.self.invariant c.count_before-place.ensures.before c.width_of-width.ensures c.as_slice-cells.ensures c.as_slice.ensures c.is_cell_of.ensures.pair in
+    let told = cell_at-is n pair c.count_before-place.result c.width_of-width.result c.as_slice.result.now c.is_cell_of.result c.width_of-width.ensures c.as_slice.ensures c.is_cell_of.ensures.pair in
     let made = value_of-taken n pair c.count_before-place.result c.width_of-width.result c.as_mut_slice.result.now c.remove_cell.new.cells c.self.told c.self.invariant (c.is_cell_of.ensures.within c.if-not-is_cell_of.false) place_is (sym told ∙ c.if-not-is_cell_of.false) c.width_of-width.ensures c.as_mut_slice.ensures.value c.remove_cell.ensures in
     subst IsNode (sym made) (IsNode-without_pair (value_of n) pair c.self.invariant)
 
@@ -85,7 +85,7 @@ returns-clause-found c =
     let n = c.self.inside in
     let pair = c.args.pair.now in
     let place_is = place-from_search n pair c.count_before-place.result c.width_of-width.result c.as_slice-cells.result.now c.count_before-place.ensures.before c.width_of-width.ensures c.as_slice-cells.ensures in
-    let told = has_pair-from_cell n pair c.count_before-place.result c.width_of-width.result c.as_slice-cells.result.now c.as_slice.result.now c.is_cell_of.result c.self.invariant c.count_before-place.ensures.before c.width_of-width.ensures c.as_slice-cells.ensures c.as_slice.ensures c.is_cell_of.ensures.pair in
+    let told = cell_at-is n pair c.count_before-place.result c.width_of-width.result c.as_slice.result.now c.is_cell_of.result c.width_of-width.ensures c.as_slice.ensures c.is_cell_of.ensures.pair in
     sym c.if-not-is_cell_of.false ∙ told ∙ sym (has_pair-at n pair c.count_before-place.result c.self.invariant place_is) ∙ ap (λ (value : NodeValue). has_pair pair (pairs_in value)) c.self.view_is
 
 pub returns-clause-node : goal.returns-clause-node
@@ -93,6 +93,6 @@ returns-clause-node c =
     let n = c.self.inside in
     let pair = c.args.pair.now in
     let place_is = place-from_search n pair c.count_before-place.result c.width_of-width.result c.as_slice-cells.result.now c.count_before-place.ensures.before c.width_of-width.ensures c.as_slice-cells.ensures in
-    let told = has_pair-from_cell n pair c.count_before-place.result c.width_of-width.result c.as_slice-cells.result.now c.as_slice.result.now c.is_cell_of.result c.self.invariant c.count_before-place.ensures.before c.width_of-width.ensures c.as_slice-cells.ensures c.as_slice.ensures c.is_cell_of.ensures.pair in
+    let told = cell_at-is n pair c.count_before-place.result c.width_of-width.result c.as_slice.result.now c.is_cell_of.result c.width_of-width.ensures c.as_slice.ensures c.is_cell_of.ensures.pair in
     value_of-taken n pair c.count_before-place.result c.width_of-width.result c.as_mut_slice.result.now c.remove_cell.new.cells c.self.told c.self.invariant (c.is_cell_of.ensures.within c.if-not-is_cell_of.false) place_is (sym told ∙ c.if-not-is_cell_of.false) c.width_of-width.ensures c.as_mut_slice.ensures.value c.remove_cell.ensures
     ∙ ap (λ (value : NodeValue). without_pair value pair) c.self.view_is
