@@ -23,9 +23,13 @@ pub record PageImage : Type 0 where
   pub bytes : List ℕ
   pub position : ℕ
 
+-- the image of a page with these bytes, at this position
+abbrev pub an_image : ℕ → List ℕ → ℕ → PageImage
+an_image page bytes position = record { page = page; bytes = bytes; position = position }
+
 -- an image, by its value
 abbrev pub image_of : Image → PageImage
-image_of image = record { page = image.page; bytes = image.bytes.now; position = image.position }
+image_of image = an_image image.page image.bytes.now image.position
 
 -- the bytes of an image, with its position in the header
 abbrev pub placed : PageImage → List ℕ

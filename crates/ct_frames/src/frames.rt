@@ -1,9 +1,9 @@
 //! Frames over a device of pages.
 
-ghost use Rattle.std.specs.Prelude.{◌≡◌, ◌≤◌, ◌<◌, ◌^◌, ◌++◌, ℕ, List, All, map, Some, None, IsSome, IsTrue, IfErr, OnOk, OnErr, IsErrOf, MatchOption};
+ghost use Rattle.std.specs.Prelude.{◌≡◌, ◌≤◌, ◌<◌, ◌^◌, ◌++◌, [], ◌∷◌, ℕ, List, All, map, Some, None, IsSome, IsTrue, IfErr, OnOk, OnErr, IsErrOf, MatchOption};
 ghost use Rattle.ct_disk.specs.Disk.{GoesOn, Only, unchanged, raised, Rose};
 ghost use Rattle.ct_frames.specs.Fetches.{Fetches, CallsFor};
-ghost use Rattle.ct_frames.specs.Pages.{PageImage, IsPageRead, ArePages, ReplaysAll, image_of};
+ghost use Rattle.ct_frames.specs.Pages.{PageImage, IsPageRead, ArePages, ReplaysAll, an_image, image_of, page_at, page_in};
 ghost use Rattle.ct_frames.specs.Tables.{frame_at, dirty_at, bytes_at, SameFrames, Puts, IsLeast, IsClean, after_image};
 
 use crate::fault::{Fetched, FrameFault};
@@ -40,6 +40,8 @@ impl<P: Disk> Frames<P> {
     pub fn fetch(&mut self, page: u64) -> Result<Fetched, FrameFault>
         requires { page < 2 ^ 50 }
         ensures frames { Fetches result (IsPageRead P.tells (P.content self.old.device) (P.size self.old.device) page) page self.old.table self.new.table }
+        ensures pages { IsTrue P.tells → (base : ℕ → List ℕ) (images : List PageImage) → page_in (P.content self.old.device) page ≡ page_at base images page
+            → ArePages base images self.old.table → ArePages base images self.new.table }
         ensures calls { CallsFor result P.calls self.old.device self.new.device }
         ensures reads { CallsFor result P.reads self.old.device self.new.device }
         ensures content { IsTrue P.tells → P.content self.new.device ≡ P.content self.old.device }
@@ -75,6 +77,8 @@ impl<P: Disk> Frames<P> {
         requires within { page < 2 ^ 50 }
         requires here { IsSome (frame_at page self.old.table) }
         ensures frames { Puts page (after_image (dirty_at page self.old.table) bytes.now position) self.old.table self.new.table }
+        ensures pages { (base : ℕ → List ℕ) (images : List PageImage) → ArePages base images self.old.table
+            → ArePages base (images ++ an_image page bytes.now position ∷ []) self.new.table }
         ensures device { self.new.device ≡ self.old.device }
     {
         self.table.edit(page, bytes, position);
@@ -90,6 +94,8 @@ impl<P: Disk> Frames<P> {
     ) -> Result<(), FrameFault>
         requires { page < 2 ^ 50 }
         ensures ok { OnOk result (Puts page (after_image (dirty_at page self.old.table) bytes.now position) self.old.table self.new.table) }
+        ensures pages { (base : ℕ → List ℕ) (images : List PageImage) → ArePages base images self.old.table
+            → OnOk result (ArePages base (images ++ an_image page bytes.now position ∷ []) self.new.table) }
         ensures err { OnErr result (SameFrames self.old.table self.new.table) }
         ensures memory { IfErr result (λ fault. fault ≡ FrameFault.Memory) }
         ensures device { self.new.device ≡ self.old.device }

@@ -1,8 +1,9 @@
 //! The frames by the number of their page.
 
-ghost use Rattle.std.specs.Prelude.{◌≡◌, ◌<◌, ℕ, Some, None, IsSome, IfOk, OnOk, OnErr, is_some, MatchOption};
-ghost use Rattle.std.specs.HashMap.{spare};
-ghost use Rattle.ct_frames.specs.Tables.{frame_at, dirty_at, bytes_at, SameFrames, Puts, IsLeast, IsClean, after_image, blank};
+ghost use Rattle.std.specs.Prelude.{◌≡◌, ◌<◌, ℕ, Some, None, IsSome, IfOk, OnOk, OnErr, is_some, MatchOption, min, nat_eq};
+ghost use Rattle.std.specs.List.{reduce};
+ghost use Rattle.std.specs.HashMap.{spare, values, IsUnique};
+ghost use Rattle.ct_frames.specs.Tables.{frame_at, dirty_at, dirty_positions, bytes_at, SameFrames, Puts, IsLeast, IsClean, after_image, blank};
 
 use crate::frame::Frame;
 use ct_items::NoMemory;
@@ -99,9 +100,14 @@ impl FrameTable {
     pub(crate) fn oldest(&self) -> Option<u64>
         ensures { MatchOption result (IsClean self.now) (IsLeast self.now) }
     {
-        self.frames
-            .values()
-            .filter_map(|frame| frame.dirty_since)
-            .min()
+        least_dirty(&self.frames)
     }
+}
+
+/// The least position from which on a frame is dirty.
+fn least_dirty(frames: &HashMap<u64, Box<Frame>>) -> Option<u64>
+    ensures least { result ≡ reduce min (dirty_positions (values frames.now)) }
+    ensures unique { IsUnique nat_eq frames.now }
+{
+    frames.values().filter_map(|frame| frame.dirty_since).min()
 }
