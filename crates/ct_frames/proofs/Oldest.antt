@@ -9,7 +9,7 @@ use Rattle.std.proofs.lemmas.Bool.{cases_lt}
 use Rattle.std.proofs.lemmas.Map.Entries.{hash_map_get_place}
 use Rattle.ct_frames.specs.declared.frame.Frame.{Frame}
 use Rattle.ct_frames.specs.declared.table.FrameTable.{FrameTable}
-use Rattle.ct_frames.specs.Tables.{dirty_at, dirty_positions, IsClean, IsLeast}
+use Rattle.ct_frames.specs.Tables.{dirty_at, IsClean, IsLeast}
 
 -- an entry of a table
 abbrev Entry : Type 0
@@ -18,6 +18,10 @@ Entry = ℕ × Box Frame Global
 -- from which position on a boxed frame is dirty
 abbrev dirty : Box Frame Global → Option ℕ
 dirty boxed = boxed.value.dirty_since
+
+-- the positions from which on boxed frames are dirty
+abbrev dirty_positions : List (Box Frame Global) → List ℕ
+dirty_positions frames = filter_map dirty frames
 
 -- the same of what a look-up found
 abbrev dirty_found : Option (Box Frame Global) → Option ℕ
@@ -115,7 +119,7 @@ dirty_entry position (entry ∷ entries) among = elim (first_or_later position (
 ]
 
 -- what the least position of the frames says of the pages
-pub oldest_of : (table : FrameTable) (answer : Option ℕ) → IsUnique nat_eq table.frames → answer ≡ reduce min (dirty_positions (values table.frames)) → MatchOption answer (IsClean table) (IsLeast table)
+pub oldest_of : (table : FrameTable) (answer : Option ℕ) → IsUnique nat_eq table.frames → answer ≡ reduce min (filter_map (λ boxed. boxed.value.dirty_since) (values table.frames)) → MatchOption answer (IsClean table) (IsLeast table)
 oldest_of table answer unique is = subst (λ some. MatchOption some (IsClean table) (IsLeast table)) (sym is) (by_list (dirty_positions (values table.frames)) refl)
   where
     entries : List Entry

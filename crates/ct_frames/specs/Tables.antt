@@ -1,8 +1,6 @@
 -- A table of frames as a finite map from the number of a page.
 use Rattle.std.specs.Prelude.{◌≡◌, ℕ, ◌≤◌, ◌==◌, min, nat_eq, if◌then◌else◌, List, replicate, Option, Some, None, option_map, option_and_then, IfSome}
 use Rattle.std.specs.HashMap.{get}
-use Rattle.std.specs.List.{filter_map}
-use Rattle.std.proofs.Common.{Box, Global}
 use Rattle.ct_frames.specs.declared.frame.Frame.{Frame}
 use Rattle.ct_frames.specs.declared.table.FrameTable.{FrameTable}
 use Rattle.ct_page.specs.Headers.{with_position}
@@ -56,7 +54,3 @@ pub record IsLeast (table : FrameTable) (position : ℕ) : Type 0 where
   pub page : ℕ
   pub has : dirty_at page table ≡ Some position
   pub least : (other : ℕ) → IfSome (dirty_at other table) (λ first. position ≤ first)
-
--- the positions from which on the frames in these boxes are dirty
-abbrev pub dirty_positions : List (Box Frame Global) → List ℕ
-dirty_positions frames = filter_map (λ frame. frame.value.dirty_since) frames

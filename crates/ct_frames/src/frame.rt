@@ -1,6 +1,6 @@
 //! One page in memory.
 
-ghost use Rattle.std.specs.Prelude.{◌≡◌};
+ghost use Rattle.std.specs.Prelude.{◌≡◌, None};
 ghost use Rattle.ct_frames.specs.Tables.{blank, after_image, first_since};
 
 use ct_page::{PAGE_SIZE, set_position};
@@ -23,6 +23,18 @@ impl Frame {
             bytes: [0; PAGE_SIZE],
             dirty_since: None,
         }
+    }
+
+    /// The page that an image gives, with its position in the header.
+    pub(crate) fn of_image(bytes: &[u8; PAGE_SIZE], position: u64) -> Frame
+        ensures { result ≡ after_image None bytes.now position }
+    {
+        let mut frame = Frame {
+            bytes: *bytes,
+            dirty_since: Some(position),
+        };
+        set_position(&mut frame.bytes, position);
+        frame
     }
 
     /// Puts an image over the page, with its position in the header.

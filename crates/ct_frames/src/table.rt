@@ -1,9 +1,9 @@
 //! The frames by the number of their page.
 
 ghost use Rattle.std.specs.Prelude.{◌≡◌, ◌<◌, ℕ, Some, None, IsSome, IfOk, OnOk, OnErr, is_some, MatchOption, min, nat_eq};
-ghost use Rattle.std.specs.List.{reduce};
+ghost use Rattle.std.specs.List.{reduce, filter_map};
 ghost use Rattle.std.specs.HashMap.{spare, values, IsUnique};
-ghost use Rattle.ct_frames.specs.Tables.{frame_at, dirty_at, dirty_positions, bytes_at, SameFrames, Puts, IsLeast, IsClean, after_image, blank};
+ghost use Rattle.ct_frames.specs.Tables.{frame_at, dirty_at, bytes_at, SameFrames, Puts, IsLeast, IsClean, after_image, blank};
 
 use crate::frame::Frame;
 use ct_items::NoMemory;
@@ -47,14 +47,23 @@ impl FrameTable {
         }
     }
 
-    /// Makes room for one more frame, and gives that frame, with zeros.
+    /// Makes room for one more frame, and gives a frame of zeros for it.
     pub(crate) fn blank(&mut self) -> Result<Box<Frame>, NoMemory>
         ensures frame { IfOk result (λ frame. frame.value ≡ blank) }
         ensures room { OnOk result (0 < spare self.new.frames) }
         ensures same { SameFrames self.old self.new }
     {
+        self.hold(Frame::blank())
+    }
+
+    /// Makes room for one more frame, and gives this one back on the heap.
+    fn hold(&mut self, frame: Frame) -> Result<Box<Frame>, NoMemory>
+        ensures frame { IfOk result (λ held. held.value ≡ frame) }
+        ensures room { OnOk result (0 < spare self.new.frames) }
+        ensures same { SameFrames self.old self.new }
+    {
         self.frames.reserve(1)?;
-        Ok(Box::new(self.alloc, Frame::blank())?)
+        Ok(Box::new(self.alloc, frame)?)
     }
 
     /// Puts a frame for a page, where there is room for one more.
@@ -90,8 +99,7 @@ impl FrameTable {
             self.edit(page, bytes, position);
             return Ok(());
         }
-        let mut frame = self.blank()?;
-        frame.put_image(bytes, position);
+        let frame = self.hold(Frame::of_image(bytes, position))?;
         self.put(page, frame);
         Ok(())
     }
@@ -106,7 +114,7 @@ impl FrameTable {
 
 /// The least position from which on a frame is dirty.
 fn least_dirty(frames: &HashMap<u64, Box<Frame>>) -> Option<u64>
-    ensures least { result ≡ reduce min (dirty_positions (values frames.now)) }
+    ensures least { result ≡ reduce min (filter_map (λ frame. frame.value.dirty_since) (values frames.now)) }
     ensures unique { IsUnique nat_eq frames.now }
 {
     frames.values().filter_map(|frame| frame.dirty_since).min()
