@@ -1,4 +1,4 @@
-//! Leaves and inner nodes with keys of one, four and 128 bytes.
+//! Leaves with keys of four bytes: as many pairs as there is room for, and a full one split.
 
 ghost use Rattle.std.specs.Prelude.{◌≡◌, ◌≤◌, length, IfOk};
 
