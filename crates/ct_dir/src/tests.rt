@@ -1,15 +1,16 @@
 //! Each call once.
 
 use crate::{
-    MapEntry, add_file, block, file_page, first_leaf, first_map, page_count, root, set_block,
-    set_first_leaf, set_first_map, set_page_count, set_root,
+    MapEntry, add_file, block, entry_count, file_count, file_page, first_leaf, first_map,
+    page_count, root, set_block, set_first_leaf, set_first_map, set_page_count, set_root,
 };
-use ct_page::{PAGE_SIZE, u16_at};
+use ct_page::PAGE_SIZE;
 
 #[test]
 fn a_directory_tells_its_files(rt: HostRuntime) {
     let mut page = [0; PAGE_SIZE];
     set_page_count(&mut page, 5);
+    assert_eq!(rt; file_count(&page), 0);
     add_file(&mut page, 1);
     add_file(&mut page, 4);
     assert_eq!(rt; page_count(&page), 5);
@@ -41,9 +42,9 @@ fn the_last_entry_makes_a_map_page_whole(rt: HostRuntime) {
         used: 3968,
     };
     set_block(&mut page, 395, entry);
-    assert_eq!(rt; u16_at(&page, 6), 396);
+    assert_eq!(rt; entry_count(&page), 396);
     assert_eq!(rt; block(&page, 395), Some(entry));
     set_block(&mut page, 2, entry);
-    assert_eq!(rt; u16_at(&page, 6), 396);
+    assert_eq!(rt; entry_count(&page), 396);
     assert_eq!(rt; block(&page, 1), Some(MapEntry { page: 0, used: 0 }));
 }

@@ -7,3 +7,4 @@ pub mod Made
 pub mod Cuts
 pub mod Edits
 pub mod Grammar
+pub mod Fewer

@@ -1,6 +1,6 @@
 //! `Slots`, the records of one block in one page.
 
-ghost use Rattle.std.specs.Prelude.{◌≡◌, ◌≢◌, ◌≤◌, ◌+◌, ◌-◌, ◌%◌, [], length, option_map, IfSome, IfNone};
+ghost use Rattle.std.specs.Prelude.{◌≡◌, ◌≢◌, ◌≤◌, ◌+◌, ◌-◌, ◌%◌, [], ℕ, length, option_map, IfSome, IfNone};
 ghost use Rattle.ct_definitions.specs.Changes.{without_row};
 ghost use Rattle.ct_definitions.specs.Room.{image_at, use_of};
 ghost use Rattle.ct_slots.specs.Pages.{RecordPage, Fits, page_of, with_rows, with_slot, rows_use};
@@ -81,7 +81,8 @@ impl Slots {
 
     /// How many bytes are left for further records. Each takes its image and 8 bytes.
     pub fn room(&self) -> usize
-        ensures { result ≡ 3968 - rows_use self.now.rows }
+        ensures room { result ≡ 3968 - rows_use self.now.rows }
+        ensures beside { (num : ℕ) → rows_use (without_row num self.now.rows) ≤ rows_use self.now.rows }
     {
         find::room(&self.page)
     }
