@@ -97,10 +97,18 @@ fn a_record_is_rewritten_and_deleted(rt: HostRuntime) {
 fn a_block_has_room_for_one_long_record(rt: HostRuntime) {
     let state = one_record(rt.alloc(), &[b'x'; 3840]).expect(&rt, "a record is added");
     for (len, num) in [(112, 2), (113, 128), (3840, 128)] {
+        assert!(rt; state.files().len() == 1);
         assert_eq!(rt; lowest_free(&state, 0, len), Some(num), "of {len} bytes");
     }
-    assert!(rt; may_stand(rt.alloc(), &state, 0, 128, b"yy"));
-    assert!(rt; !may_stand(rt.alloc(), &state, 0, 128, b"xx"));
+}
+
+#[test]
+fn an_image_may_stand_where_its_key_is_free(rt: HostRuntime) {
+    let state = one_record(rt.alloc(), b"xx").expect(&rt, "a record is added");
+    assert!(rt; state.files().len() == 1);
+    assert!(rt; may_stand(rt.alloc(), &state, 0, 2, b"yy"));
+    assert!(rt; state.files().len() == 1);
+    assert!(rt; !may_stand(rt.alloc(), &state, 0, 2, b"xx"));
 }
 
 #[test]
