@@ -1,7 +1,7 @@
 //! `KeyBuf`, the bytes of a key, which contracts see as a list.
 //! Up to 128 bytes stand in the value itself.
 
-ghost use Rattle.std.specs.Prelude.{◌≡◌, ◌+◌, ◌<◌, ◌≤◌, [], ◌∷◌, ◌++◌, length, IsOk, OnOk, OnErr};
+ghost use Rattle.std.specs.Prelude.{◌≡◌, ◌+◌, ◌<◌, ◌≤◌, [], ◌∷◌, ◌++◌, length, IsOk, IfOk, OnOk, OnErr};
 
 use ct_definitions::LONGEST_KEY;
 use ct_items::NoMemory;
@@ -38,6 +38,15 @@ impl KeyBuf {
         KeyBuf {
             bytes: SmallVec::new(alloc),
         }
+    }
+
+    /// A copy of bytes. Up to 128 of them take no memory.
+    pub fn from_slice(alloc: Global, bytes: &[u8]) -> Result<KeyBuf, NoMemory>
+        ensures ok { IfOk result (λ key. key ≡ bytes.now) }
+        ensures room { length bytes.now ≤ LONGEST_KEY → IsOk result }
+    {
+        let bytes = SmallVec::from_slice(alloc, bytes)?;
+        Ok(KeyBuf { bytes })
     }
 
     pub fn as_slice(&self) -> &[u8]

@@ -13,7 +13,7 @@ use_beside-unused num (row ∷ rows) unused =
     grind (arith, nat_tests, sum_by-cons (use_beside num) row rows, sum_by-cons (λ other. if block_of other.num == block_of num then use_of other.image else 0) row rows, use_beside-unused num rows)
 
 -- the image of a number that no record has, and of one that a record has
-is_none-image_at : (num : ℕ) (rows : List Row) → is_none (image_at num rows) ≡ is_none (row_at num rows)
+pub is_none-image_at : (num : ℕ) (rows : List Row) → is_none (image_at num rows) ≡ is_none (row_at num rows)
 is_none-image_at num rows = none_of (row_at num rows)
   where
     none_of : (found : Option Row) → is_none (option_map (λ row. row.image) found) ≡ is_none found

@@ -1,6 +1,6 @@
 -- Where a file is fitting, each of its indexes has a key in each of its images.
-use Rattle.std.proofs.Common.{◌≡◌, ℕ, zero, suc, ◌+◌, ◌<◌, ◌≤◌, Bool, true, false, not, ◌&&◌, ◌==◌, nat_le, List, [], ◌∷◌, length, get_or, None, refl, ap, sym, subst, ◌∙◌, arith}
-use Rattle.std.specs.List.{list_all, list_any}
+use Rattle.std.proofs.Common.{◌≡◌, ℕ, zero, suc, ◌+◌, ◌<◌, ◌≤◌, Bool, true, ◌&&◌, nat_le, List, [], ◌∷◌, length, get_or, Option, Some, None, option_map, refl, ap, sym, ◌∙◌, arith}
+use Rattle.std.specs.List.{list_all}
 use Rattle.std.proofs.lemmas.Bool.Decides.{nat_tests}
 use Rattle.ct_definitions.specs.declared.definition.Kind.{Kind}
 use Rattle.ct_definitions.specs.declared.definition.Kind.TheVariants.{Fixed, Variable}
@@ -8,10 +8,9 @@ use Rattle.ct_definitions.specs.declared.definition.Seg.{Seg}
 use Rattle.ct_definitions.specs.declared.definition.IndexDef.{IndexDef}
 use Rattle.ct_definitions.specs.declared.store.Row.{Row}
 use Rattle.ct_definitions.specs.declared.store.File.{File}
-use Rattle.ct_definitions.specs.Keys.{key_of}
 use Rattle.ct_definitions.specs.Validity.{takes_len, least_len, is_valid_seg, is_valid_index}
-use Rattle.ct_definitions.specs.Room.{has_fitting_len}
-use Rattle.ct_definitions.specs.Changes.{is_same_key, has_key_of, is_taken_in}
+use Rattle.ct_definitions.specs.Room.{has_fitting_len, row_at, image_at}
+use Rattle.ct_laws.proofs.Rows.{list_all-row_at}
 use Rattle.ct_model.specs.Fitting.{reads_keys, reads_all_keys, is_fitting}
 
 -- what follows from a test of each element
@@ -61,29 +60,19 @@ reads_all_keys-at file i d fitting within =
     list_all_from (λ row. has_fitting_len file.def.kind (length row.image)) (λ row. reads_keys (get_or file.def.indexes i d) (length row.image))
     (λ row fits. reads_keys-at file i d (length row.image) fitting within fits) file.records (fitting_images file fitting)
 
--- where the image has no key, no record has the same
-pub has_key_of-none : (index : IndexDef) (num : ℕ) (image : List ℕ) (rows : List Row) → key_of index image ≡ None → list_any (has_key_of index num image) rows ≡ false
-has_key_of-none index num image rows none = ap (λ key. list_any (λ row. not (row.num == num) && is_same_key key (key_of index row.image)) rows) none ∙ no_key rows
+-- each index has a key in each image of a length that the file allows
+pub reads_each : (file : File) (len : ℕ) → is_fitting file ≡ true → has_fitting_len file.def.kind len ≡ true → list_all (λ index. reads_keys index len) file.def.indexes ≡ true
+reads_each file len fitting fits =
+    list_all_from (is_valid_index (least_len file.def.kind)) (λ index. reads_keys index len)
+    (λ index valid. reads_keys-longer (least_len file.def.kind) len index (least_len-le file.def.kind len fits) valid) file.def.indexes (valid_indexes file fitting)
+
+-- and in the image of a record
+pub reads_found : (file : File) (num : ℕ) (image : List ℕ) → is_fitting file ≡ true → image_at num file.records ≡ Some image → list_all (λ index. reads_keys index (length image)) file.def.indexes ≡ true
+reads_found file num image fitting found = reads_each file (length image) fitting (fits_of (row_at num file.records) refl found)
   where
-    no_key : (rows : List Row) → list_any (λ row. not (row.num == num) && is_same_key None (key_of index row.image)) rows ≡ false
-    no_key [] = refl
-    no_key (row ∷ rows) = grind (arith, no_key rows)
-
--- then it is taken in no index
-pub is_taken_in-none : (index : IndexDef) (num : ℕ) (image : List ℕ) (rows : List Row) → key_of index image ≡ None → is_taken_in num image rows index ≡ false
-is_taken_in-none index num image rows none = grind (arith, has_key_of-none index num image rows none)
-
--- the same of an index that was read from the file
-pub reads_keys-read : (file : File) (items : List IndexDef) (i : ℕ) (index : IndexDef) (len : ℕ) → items ≡ file.def.indexes → index ≡ get_or items i index → i < length items → is_fitting file ≡ true → has_fitting_len file.def.kind len ≡ true → reads_keys index len ≡ true
-reads_keys-read file items i index len same is within fitting fits =
-    let place : i < length file.def.indexes = rw (← same) within in
-    let here : index ≡ get_or file.def.indexes i index = rw (← same) is in
-    let P : IndexDef → Type 0 = λ read. reads_keys read len ≡ true in
-    subst P (sym here) (reads_keys-at file i index len fitting place fits)
-
-pub reads_all_keys-read : (file : File) (items : List IndexDef) (rows : List Row) (i : ℕ) (index : IndexDef) → items ≡ file.def.indexes → rows ≡ file.records → index ≡ get_or items i index → i < length items → is_fitting file ≡ true → reads_all_keys index rows ≡ true
-reads_all_keys-read file items rows i index same all is within fitting =
-    let place : i < length file.def.indexes = rw (← same) within in
-    let here : index ≡ get_or file.def.indexes i index = rw (← same) is in
-    let P : IndexDef → Type 0 = λ read. reads_all_keys read file.records ≡ true in
-    rw all (subst P (sym here) (reads_all_keys-at file i index fitting place))
+    fits_of : (row : Option Row) → row_at num file.records ≡ row → option_map (λ (r : Row). r.image) row ≡ Some image → has_fitting_len file.def.kind (length image) ≡ true
+    fits_of None is none = cc
+    fits_of (Some row) is some =
+        let same : row.image ≡ image = cc in
+        ap (λ (bytes : List ℕ). has_fitting_len file.def.kind (length bytes)) (sym same)
+        ∙ list_all-row_at (λ row. has_fitting_len file.def.kind (length row.image)) num row file.records (fitting_images file fitting) is

@@ -1,4 +1,9 @@
-pub mod Edits
+pub mod Places
 pub mod KeysRead
-pub mod FittingFiles
+pub mod StoredFiles
 pub mod FreeNumbers
+pub mod Blocks
+pub mod FullBlocks
+pub mod EachPairs
+pub mod Found
+pub mod Kept

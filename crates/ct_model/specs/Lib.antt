@@ -1,5 +1,7 @@
+pub mod EachIndex
 pub mod Fitting
 pub mod Free
+pub mod Stored
 pub use Rattle.ct_definitions.specs.Keys
 pub use Rattle.ct_definitions.specs.Validity
 pub use Rattle.ct_definitions.specs.Room

@@ -4,11 +4,10 @@
 ghost use Rattle.std.specs.Prelude.{◌≡◌, ◌↔◌, true, false, Some, None, Ok, IfOk, OnOk, OnErr, IsErrOf};
 ghost use Rattle.ct_definitions.specs.Changes.{allows, changed, inverse_of};
 
-use crate::keys::may_stand;
 use crate::rows::{has_image, image_at};
-use crate::state::{State, file_at, has_name};
+use crate::state::{State, file_at, has_name, may_stand};
 use crate::validity::valid;
-use ct_definitions::{Bytes, Change, File, FileDef, MOST_FILES, Row};
+use ct_definitions::{Bytes, Change, File, FileDef, MOST_FILES};
 use ct_items::NoMemory;
 use std::alloc::{AllocError, Global};
 use thiserror::Error;
@@ -74,7 +73,7 @@ fn allows_add(state: &State, file: u16, num: u64, new: &Bytes) -> bool
     if num == 0 || image_at(num, found.records.as_slice()).is_some() {
         return false;
     }
-    may_stand(state.allocator(), found, num, new.as_slice())
+    may_stand(state.allocator(), state, file, num, new.as_slice())
 }
 
 fn allows_rewrite(state: &State, file: u16, num: u64, old: &Bytes, new: &Bytes) -> bool
@@ -86,7 +85,7 @@ fn allows_rewrite(state: &State, file: u16, num: u64, old: &Bytes, new: &Bytes) 
     if !has_image(num, old.as_slice(), found.records.as_slice()) {
         return false;
     }
-    may_stand(state.allocator(), found, num, new.as_slice())
+    may_stand(state.allocator(), state, file, num, new.as_slice())
 }
 
 fn allows_delete(state: &State, file: u16, num: u64, old: &Bytes) -> bool
@@ -129,11 +128,7 @@ fn add(state: &mut State, file: u16, num: u64, new: &Bytes) -> Result<(), NoMemo
     ensures ok { OnOk result (state.new ≡ changed state.old (Change.Add file num new.now)) }
     ensures err { OnErr result (state.new ≡ state.old) }
 {
-    let row = Row {
-        num,
-        image: new.clone()?,
-    };
-    state.put_row(file, row)
+    state.add_row(file, num, new)
 }
 
 fn rewrite(state: &mut State, file: u16, num: u64, old: &Bytes, new: &Bytes) -> Result<(), NoMemory>
@@ -141,9 +136,7 @@ fn rewrite(state: &mut State, file: u16, num: u64, old: &Bytes, new: &Bytes) -> 
     ensures ok { OnOk result (state.new ≡ changed state.old (Change.Rewrite file num old.now new.now)) }
     ensures err { OnErr result (state.new ≡ state.old) }
 {
-    let image = new.clone()?;
-    state.put_image(file, num, image);
-    Ok(())
+    state.rewrite_row(file, num, new)
 }
 
 // makes a change that is defined
@@ -162,7 +155,7 @@ fn perform(alloc: Global, state: &mut State, change: &Change) -> Result<(), NoMe
             new,
         } => rewrite(state, *file, *num, old, new),
         Change::Delete { file, num, .. } => {
-            state.take_row(*file, *num);
+            state.delete_row(*file, *num);
             Ok(())
         }
     }

@@ -1,15 +1,22 @@
 //! A store's state: its files, numbered from 0.
 //! Files and indexes are found by their names, the first of a name where there are more.
 
-ghost use Rattle.std.specs.Prelude.{◌≡◌, ◌<◌, [], ◌∷◌, ◌++◌, length, slice_get, true, bytes_eq, position, IfSome, OnOk, OnErr};
+ghost use Rattle.std.specs.Prelude.{◌≡◌, ◌<◌, ◌≤◌, ◌^◌, ℕ, [], ◌∷◌, ◌++◌, length, slice_get, true, bytes_eq, position, None, IfSome, IfNone, OnOk, OnErr};
 ghost use Rattle.std.specs.Option.{option_copied};
 ghost use Rattle.ct_definitions.specs.Validity.{is_valid};
-ghost use Rattle.ct_definitions.specs.Changes.{has_name, in_file, with_row, with_image, without_row};
+ghost use Rattle.ct_definitions.specs.Room.{row_at};
+ghost use Rattle.ct_definitions.specs.Changes.{has_name, has_taken_key, may_stand, passes, in_file, with_row, with_image, without_row};
+ghost use Rattle.ct_definitions.specs.Reached.{rise_above};
 ghost use Rattle.ct_model.specs.Fitting.{is_fitting, are_fitting, takes_len_in};
+ghost use Rattle.ct_model.specs.Free.{IsFree, IsNotFree};
+ghost use Rattle.ct_model.specs.Stored.{are_rising, records_at, found_in};
 
-use crate::rows::{put_image, put_row, take_row};
-use ct_definitions::{Bytes, File, FileDef, Row, Rows};
+use crate::cache::Cache;
+use crate::keys::{can_stand, is_key_taken};
+use crate::stored::{add_row, delete_row, lowest_free_in_file, new_cache, new_file, rewrite_row};
+use ct_definitions::{Bytes, File, FileDef, LONGEST_IMAGE};
 use ct_items::NoMemory;
+use ct_pairs::{Pair, Pairs, Seek};
 use std::alloc::Global;
 use std::marker::Model;
 
@@ -21,22 +28,23 @@ pub struct Record {
 }
 
 /// The files of a store in the order of their making.
-/// Each definition is valid, and each image has a length that its file allows.
-#[derive(Debug, Drop)]
+/// Each definition is valid, each image has a length that its file allows, and numbers rise.
+#[derive(Drop)]
 pub struct State {
     files: Vec<File>,
+    caches: Vec<Cache>,
 }
 
 impl Model for State {
-    ghost use Rattle.std.specs.Prelude.{List, ◌≡◌, true};
+    ghost use Rattle.std.specs.Prelude.{List};
     ghost use Rattle.ct_definitions.specs.declared.store.File.{File};
-    ghost use Rattle.ct_model.specs.Fitting.{are_fitting};
+    ghost use Rattle.ct_model.specs.Stored.{AreStored};
 
     ghost Value = { List File };
 
     ghost view = { λ state. state.files.items };
 
-    ghost invariant = { λ state. are_fitting state.files.items ≡ true };
+    ghost invariant = { λ state. AreStored state.files.items state.caches.items };
 }
 
 impl State {
@@ -46,6 +54,7 @@ impl State {
     {
         State {
             files: Vec::new(alloc),
+            caches: Vec::new(alloc),
         }
     }
 
@@ -53,8 +62,23 @@ impl State {
     pub fn files(&self) -> &[File]
         ensures files { result.now ≡ self.now }
         ensures fitting { are_fitting self.now ≡ true }
+        ensures rising { are_rising self.now ≡ true }
     {
+        let _caches = &self.caches;
         self.files.as_slice()
+    }
+
+    /// The pair that a search finds in an index of a file, or none where there is no such index.
+    pub fn find(&self, file: u16, index: usize, seek: Seek<'_>) -> Option<&Pair>
+        ensures { option_copied result ≡ found_in (slice_get self.now file) index seek.entry }
+    {
+        let Some(cache) = cache_at(usize::from(file), self.caches.as_slice()) else {
+            return None;
+        };
+        let Some(pairs) = pairs_at(index, cache.pairs.as_slice()) else {
+            return None;
+        };
+        pairs.find(seek)
     }
 
     /// The allocator of the state.
@@ -68,46 +92,119 @@ impl State {
         ensures ok { OnOk result (self.new ≡ self.old ++ record { def = def; records = [] } ∷ []) }
         ensures err { OnErr result (self.new ≡ self.old) }
     {
-        let file = File {
-            def,
-            records: Rows::new(alloc),
-        };
+        let file = new_file(alloc, def);
+        let cache = new_cache(alloc, &file)?;
         self.files.push(file)?;
+        if self.caches.push(cache).is_err() {
+            let _file = self.files.pop();
+            return Err(NoMemory);
+        }
         Ok(())
     }
 
-    /// Puts a record into a file, before the first of a greater number.
-    pub(crate) fn put_row(&mut self, file: u16, row: Row) -> Result<(), NoMemory>
+    /// Puts a record of a free number into a file.
+    pub(crate) fn add_row(&mut self, file: u16, num: u64, image: &Bytes) -> Result<(), NoMemory>
         requires file { file < length self.old }
-        requires len { takes_len_in (slice_get self.old file) (length row.image) ≡ true }
-        ensures ok { OnOk result (self.new ≡ in_file self.old file (with_row row)) }
+        requires len { takes_len_in (slice_get self.old file) (length image.now) ≡ true }
+        requires num { 1 ≤ num }
+        requires free { row_at num (records_at self.old file) ≡ None }
+        ensures ok { OnOk result (self.new ≡ in_file self.old file (with_row (record { num = num; image = image.now }))) }
         ensures err { OnErr result (self.new ≡ self.old) }
     {
-        put_row(&mut self.files[usize::from(file)].records, row)
+        let place = usize::from(file);
+        let alloc = *self.files.allocator();
+        add_row(
+            alloc,
+            &mut self.files[place],
+            &mut self.caches[place],
+            num,
+            image,
+        )
     }
 
-    /// Gives the first record of the number in a file another image.
-    pub(crate) fn put_image(&mut self, file: u16, num: u64, image: Bytes)
+    /// Gives the record of the number in a file another image.
+    pub(crate) fn rewrite_row(&mut self, file: u16, num: u64, image: &Bytes) -> Result<(), NoMemory>
         requires file { file < length self.old }
-        requires len { takes_len_in (slice_get self.old file) (length image) ≡ true }
-        ensures { self.new ≡ in_file self.old file (with_image num image) }
+        requires len { takes_len_in (slice_get self.old file) (length image.now) ≡ true }
+        ensures ok { OnOk result (self.new ≡ in_file self.old file (with_image num image.now)) }
+        ensures err { OnErr result (self.new ≡ self.old) }
     {
-        put_image(&mut self.files[usize::from(file)].records, num, image);
+        let place = usize::from(file);
+        let alloc = *self.files.allocator();
+        rewrite_row(
+            alloc,
+            &mut self.files[place],
+            &mut self.caches[place],
+            num,
+            image,
+        )
     }
 
-    /// Takes the first record of the number out of a file.
-    pub(crate) fn take_row(&mut self, file: u16, num: u64)
+    /// Takes the record of the number out of a file.
+    pub(crate) fn delete_row(&mut self, file: u16, num: u64)
         requires { file < length self.old }
         ensures { self.new ≡ in_file self.old file (without_row num) }
     {
-        take_row(&mut self.files[usize::from(file)].records, num);
+        let place = usize::from(file);
+        let alloc = *self.files.allocator();
+        delete_row(alloc, &mut self.files[place], &mut self.caches[place], num);
     }
+}
+
+// what is kept beside the file at a place
+fn cache_at(place: usize, caches: &[Cache]) -> Option<&Cache>
+    ensures { option_copied result ≡ slice_get caches.now place }
+{
+    caches.get(place)
+}
+
+// the pairs of the index at a place
+fn pairs_at(place: usize, pairs: &[Pairs]) -> Option<&Pairs>
+    ensures { option_copied result ≡ slice_get pairs.now place }
+{
+    pairs.get(place)
+}
+
+/// The lowest number, from 1 on, that no record of the file has and whose block has room for an
+/// image of `len` bytes.
+pub fn lowest_free(state: &State, file: u16, len: usize) -> Option<u64>
+    requires file { file < length state.now }
+    requires len { len ≤ LONGEST_IMAGE }
+    ensures found { IfSome result (λ num. (1 ≤ num) × IsFree num len (records_at state.now file)) }
+    ensures lowest { IfSome result (λ num. (lower : ℕ) → 1 ≤ lower → lower < num → IsNotFree lower len (records_at state.now file)) }
+    ensures none { IfNone result ((num : ℕ) → 1 ≤ num → num < 2 ^ 64 → IsNotFree num len (records_at state.now file)) }
+{
+    let place = usize::from(file);
+    lowest_free_in_file(&state.files[place], &state.caches[place], len)
+}
+
+/// Whether another record of the file has a key of the image in a unique index.
+/// It takes no memory.
+pub fn has_taken_key(alloc: Global, state: &State, file: u16, num: u64, image: &[u8]) -> bool
+    requires file { file < length state.now }
+    requires len { takes_len_in (slice_get state.now file) (length image.now) ≡ true }
+    ensures { result ≡ passes (slice_get state.now file) (λ f. has_taken_key f num image.now) }
+{
+    let place = usize::from(file);
+    is_key_taken(alloc, &state.files[place], &state.caches[place], num, image)
+}
+
+/// Whether the image may stand under the number beside the other records of the file: it has a
+/// length that the file allows, no key in a unique index that another record has, and room.
+/// It takes no memory.
+pub fn may_stand(alloc: Global, state: &State, file: u16, num: u64, image: &[u8]) -> bool
+    requires { file < length state.now }
+    ensures { result ≡ passes (slice_get state.now file) (λ f. may_stand f num image.now) }
+{
+    let place = usize::from(file);
+    can_stand(alloc, &state.files[place], &state.caches[place], num, image)
 }
 
 /// The file of the number, from 0.
 pub fn file_at(state: &State, file: u16) -> Option<&File>
     ensures found { option_copied result ≡ slice_get state.now file }
     ensures fitting { IfSome result (λ found. is_fitting found.now ≡ true) }
+    ensures rising { IfSome result (λ found. rise_above 0 found.now.records ≡ true) }
 {
     state.files().get(usize::from(file))
 }

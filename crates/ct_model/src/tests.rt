@@ -96,12 +96,19 @@ fn a_record_is_rewritten_and_deleted(rt: HostRuntime) {
 #[test]
 fn a_block_has_room_for_one_long_record(rt: HostRuntime) {
     let state = one_record(rt.alloc(), &[b'x'; 3840]).expect(&rt, "a record is added");
-    let file = file_at(&state, 0).expect(&rt, "there is a file");
     for (len, num) in [(112, 2), (113, 128), (3840, 128)] {
-        assert_eq!(rt; lowest_free(file, len), Some(num), "of {len} bytes");
+        assert!(rt; state.files().len() == 1);
+        assert_eq!(rt; lowest_free(&state, 0, len), Some(num), "of {len} bytes");
     }
-    assert!(rt; may_stand(rt.alloc(), file, 128, b"yy"));
-    assert!(rt; !may_stand(rt.alloc(), file, 128, b"xx"));
+}
+
+#[test]
+fn an_image_may_stand_where_its_key_is_free(rt: HostRuntime) {
+    let state = one_record(rt.alloc(), b"xx").expect(&rt, "a record is added");
+    assert!(rt; state.files().len() == 1);
+    assert!(rt; may_stand(rt.alloc(), &state, 0, 2, b"yy"));
+    assert!(rt; state.files().len() == 1);
+    assert!(rt; !may_stand(rt.alloc(), &state, 0, 2, b"xx"));
 }
 
 #[test]
@@ -125,4 +132,13 @@ fn keys_lie_in_every_image(rt: HostRuntime) {
         assert_eq!(rt; valid(&def), fits, "of {len} bytes");
         assert!(rt; has_fitting_len(def.kind, len as usize));
     }
+}
+
+#[test]
+fn a_pair_is_found(rt: HostRuntime) {
+    let state = one_record(rt.alloc(), b"ab").expect(&rt, "a record is added");
+    let found = state.find(0, 0, Seek::First).expect(&rt, "there is a pair");
+    assert_eq!(rt; found.num(), 1);
+    assert_eq!(rt; found.key(), b"AB".as_slice());
+    assert!(rt; state.find(0, 1, Seek::First).is_none());
 }

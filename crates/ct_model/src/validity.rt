@@ -44,7 +44,7 @@ fn takes_len(mode: Mode, len: u16) -> bool
     }
 }
 
-fn least_len(kind: Kind) -> u32
+pub(crate) fn least_len(kind: Kind) -> u32
     ensures { result ≡ least_len kind }
 {
     match kind {

@@ -1,2 +1,5 @@
+pub mod Shortness
+pub mod Shows
 pub mod Served
-pub mod Fitted
+pub mod Moves
+pub mod Spellings

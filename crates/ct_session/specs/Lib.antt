@@ -1,4 +1,3 @@
-pub mod Forms
 pub mod Replies
 pub mod Steps
 pub mod Serving

@@ -1,13 +1,11 @@
-//! One session: a line read as a request, the request served, the reply written.
-//! `specs/` say which forms of a line there are and what each reply means.
+//! One session: a line read as a call, the call answered, the reply written.
+//! `specs/` say what each line comes to and how each reply is spelled.
 #![tactic(auto)]
 
-mod answer;
-mod form;
 mod reply;
+mod run;
 #[cfg(test)]
 mod tests;
 
-pub use answer::serve;
-pub use form::{Request, request_of};
-pub use reply::LONGEST_PLAIN_REPLY;
+pub use reply::LONGEST_REPLY;
+pub use run::{Asked, SessionRun, serve};

@@ -1,14 +1,18 @@
-//! A session over a log in memory: a file made, a record added and found, and refusals.
+//! A session over a log in memory: lines outside the grammar, the session's end, and each reply spelled.
 
-ghost use Rattle.std.specs.Prelude.{◌≡◌, ◌≤◌, ◌<◌, ◌+◌, ◌^◌, IfOk};
+ghost use Rattle.std.specs.Prelude.{◌≡◌, ◌≤◌, ◌<◌, ◌+◌, ◌^◌, None, IfOk};
 ghost use Rattle.ct_yard.specs.Yards.{IsSettled};
 
-use crate::{LONGEST_PLAIN_REPLY, Request, request_of, serve};
-use ct_disk::{Disk, DiskError, MemDisk};
+use crate::reply::write_reply;
+use crate::{LONGEST_REPLY, SessionRun, serve};
+use ct_disk::{Disk, DiskError, HaltCause, MemDisk};
+use ct_isam::{Reply, Session};
+use ct_items::NoMemory;
 use ct_log::{Log, make_log, open_gate};
 use ct_model::State;
 use ct_yard::Yard;
 use std::alloc::{AllocError, Global};
+use std::test::Fail;
 
 // a store without files
 fn new_yard<P: Disk + Drop, L: Disk + Drop>(
@@ -26,38 +30,6 @@ fn new_yard<P: Disk + Drop, L: Disk + Drop>(
     Ok(Yard::assemble(pages, State::new(alloc), log, 0))
 }
 
-// adds the reply to a line
-fn answer<P: Disk, L: Disk>(
-    alloc: Global,
-    yard: &mut Yard<P, L>,
-    line: &[u8],
-    replies: &mut Vec<u8>,
-) -> Result<(), AllocError>
-    requires settled { IsSettled yard.old }
-    ensures settled { IsSettled yard.new }
-    ensures pages { yard.new.pages ≡ yard.old.pages }
-{
-    replies.reserve(LONGEST_PLAIN_REPLY)?;
-    serve(alloc, yard, Some(line), replies);
-    Ok(())
-}
-
-// the replies to three lines
-fn answers<P: Disk, L: Disk>(
-    alloc: Global,
-    yard: &mut Yard<P, L>,
-    lines: (&str, &str, &str),
-) -> Result<Vec<u8>, AllocError>
-    requires settled { IsSettled yard.old }
-    ensures settled { IsSettled yard.new }
-{
-    let mut replies = Vec::new(alloc);
-    answer(alloc, yard, lines.0.as_bytes(), &mut replies)?;
-    answer(alloc, yard, lines.1.as_bytes(), &mut replies)?;
-    answer(alloc, yard, lines.2.as_bytes(), &mut replies)?;
-    Ok(replies)
-}
-
 // lets a store go
 fn close<P: Disk + Drop, L: Disk + Drop>(yard: Yard<P, L>) {
     let Yard {
@@ -69,58 +41,86 @@ fn close<P: Disk + Drop, L: Disk + Drop>(yard: Yard<P, L>) {
     } = yard;
 }
 
-#[test]
-fn a_record_is_added_and_found(rt: HostRuntime) {
-    let alloc = rt.alloc();
-    let mut yard = new_yard(alloc, MemDisk::new(alloc), MemDisk::new(alloc)).expect(&rt, "a store");
-    let lines = (
-        "CREATE part FIX 4 KEY id UNIQUE SEG REGSEG 0 4",
-        "ADD part 0001",
-        "GET part id 0001",
-    );
-    let replies = answers(alloc, &mut yard, lines).expect(&rt, "replies");
-    assert_eq!(rt; replies.as_slice(), b"OK 1\nOK 1\nOK 1 0001\n".as_slice());
-    let lines = ("ADD part 0001", "GET part id 0009", "QUIT");
-    let replies = answers(alloc, &mut yard, lines).expect(&rt, "replies");
-    let wanted = b"ERR KDUP_ERR\nERR INOT_ERR\nERR UNBUILT\n";
-    assert_eq!(rt; replies.as_slice(), wanted.as_slice());
-    close(yard);
-}
-
-#[test]
-fn each_form_is_read(rt: HostRuntime) {
-    let line = b"CREATE part FIX 9999 KEY id UNIQUE SEG REGSEG 0 4";
-    let request = request_of(line);
-    assert!(rt;
-        matches!(
-            request,
-            Some(Request::Create {
-                len: 9999,
-                at: 0,
-                key_len: 4,
-                ..
-            })
-        )
-    );
-    let request = request_of(b"ADD part 0001");
-    assert!(rt; matches!(request, Some(Request::Add { .. })));
-    let request = request_of(b"GET part id 0001");
-    assert!(rt; matches!(request, Some(Request::Get { .. })));
-}
-
-#[test]
-fn other_lines_have_no_form(rt: HostRuntime) {
-    let lines = [
-        "",
-        "ADD part",
-        "ADD part 00\\01",
-        "ADD  part 0001",
-        "ADD part 0001 ",
-        "add part 0001",
-        "CREATE part FIX 04 KEY id UNIQUE SEG REGSEG 0 4",
-        "CREATE part FIX 10000 KEY id UNIQUE SEG REGSEG 0 4",
-    ];
+// the replies of a session to lines, of which a star is one that was too long
+fn answer_all<P: Disk, L: Disk>(
+    alloc: Global,
+    yard: &mut Yard<P, L>,
+    lines: &[&str],
+) -> Result<Vec<u8>, NoMemory>
+    requires settled { IsSettled yard.old }
+{
+    let mut run = SessionRun::new(alloc, 1);
+    let mut replies = Vec::new(alloc);
     for line in lines {
-        assert!(rt; request_of(line.as_bytes()).is_none(), "{line}");
+        replies.reserve(LONGEST_REPLY)?;
+        let line = if *line == "*" {
+            None
+        } else {
+            Some(line.as_bytes())
+        };
+        serve(alloc, yard, &mut run, line, &mut replies);
     }
+    run.finish();
+    Ok(replies)
+}
+
+// the same on a store without files
+fn replies_to(alloc: Global, lines: &[&str]) -> Result<Vec<u8>, DiskError> {
+    let mut yard = new_yard(alloc, MemDisk::new(alloc), MemDisk::new(alloc))?;
+    let replies = answer_all(alloc, &mut yard, lines);
+    close(yard);
+    Ok(replies?)
+}
+
+#[test]
+fn lines_outside_the_grammar_have_their_place(rt: HostRuntime) -> Result<(), Fail> {
+    let rows = [
+        ("HELLO", "ERR BADLINE 0\n"),
+        ("GET part", "ERR BADLINE 8\n"),
+        ("ADD part a\\0", "ERR BADLINE 10\n"),
+        ("FIRST part id extra", "ERR BADLINE 14\n"),
+        ("", "ERR BADLINE 0\n"),
+        ("*", "ERR BADLINE 16384\n"),
+    ];
+    for (line, wanted) in rows {
+        let replies = replies_to(rt.alloc(), &[line])?;
+        assert_eq!(rt; replies.as_slice(), wanted.as_bytes(), "{line}");
+    }
+    Ok(())
+}
+
+#[test]
+fn nothing_is_answered_after_the_end(rt: HostRuntime) -> Result<(), Fail> {
+    let replies = replies_to(rt.alloc(), &["HELLO", "QUIT", "HELLO", "QUIT", "*"])?;
+    assert_eq!(rt; replies.as_slice(), b"ERR BADLINE 0\nOK\n".as_slice());
+    Ok(())
+}
+
+// how a reply is written
+fn spelled(alloc: Global, reply: Reply) -> Result<Vec<u8>, AllocError> {
+    let mut out = Vec::with_capacity(alloc, LONGEST_REPLY)?;
+    write_reply(reply, &Session::new(alloc), &mut out);
+    Ok(out)
+}
+
+#[test]
+fn each_reply_is_spelled(rt: HostRuntime) -> Result<(), Fail> {
+    let rows = [
+        (Reply::Ok, "OK\n"),
+        (Reply::Number(u64::MAX), "OK 18446744073709551615\n"),
+        (Reply::NoIndex, "ERR NOINDEX\n"),
+        (Reply::NoCurrent, "ERR ICUR_ERR\n"),
+        (Reply::Duplicate, "ERR KDUP_ERR\n"),
+        (Reply::Halted(HaltCause::Limit), "ERR HALT_ERR LIMIT\n"),
+        (
+            Reply::Halted(HaltCause::BadLog(7)),
+            "ERR HALT_ERR BADLOG 7\n",
+        ),
+        (Reply::Memory, "ERR MEMORY\n"),
+    ];
+    for (reply, wanted) in rows {
+        let text = spelled(rt.alloc(), reply)?;
+        assert_eq!(rt; text.as_slice(), wanted.as_bytes(), "{wanted}");
+    }
+    Ok(())
 }

@@ -1,7 +1,7 @@
 //! Bytes as they are printed in a word.
 //! Every plain byte is left as it is, every other one is written as `\xx`.
 
-ghost use Rattle.std.specs.Prelude.{◌≡◌, ℕ, List, ◌<◌, ◌++◌, OnOk, OnErr};
+ghost use Rattle.std.specs.Prelude.{◌≡◌, ℕ, List, ◌<◌, ◌≤◌, ◌+◌, ◌*◌, ◌++◌, OnOk, OnErr, length, vec_len, vec_capacity};
 ghost use Rattle.std.specs.Char.{digit_char};
 ghost use Rattle.ct_text.specs.Words.{is_plain, byte_spelling, spelling};
 
@@ -31,6 +31,9 @@ fn hex_digit(value: u8) -> u8
 fn spell_byte(byte: u8, into: &mut Vec<u8>) -> Result<(), NoMemory>
     ensures ok { OnOk result (into.new.items ≡ into.old.items ++ byte_spelling byte) }
     ensures err { OnErr result (into.new.items ≡ into.old.items) }
+    ensures len { OnOk result (vec_len into.new ≤ vec_len into.old + 3) }
+    ensures full { OnErr result (vec_capacity into.old < vec_len into.old + 3) }
+    ensures capacity { vec_capacity into.old ≤ vec_capacity into.new }
 {
     if is_plain(byte) {
         into.push(byte)?;
@@ -44,6 +47,8 @@ fn spell_byte(byte: u8, into: &mut Vec<u8>) -> Result<(), NoMemory>
 fn spell_each(bytes: &[u8], into: &mut Vec<u8>) -> Result<(), NoMemory>
     ensures ok { OnOk result (into.new.items ≡ into.old.items ++ spelling bytes.now) }
     ensures front { (more : List ℕ) × (into.new.items ≡ into.old.items ++ more) }
+    ensures full { OnErr result (vec_capacity into.old < vec_len into.old + 3 * length bytes.now) }
+    ensures capacity { vec_capacity into.old ≤ vec_capacity into.new }
 {
     for byte in bytes {
         spell_byte(*byte, into)?;
@@ -52,9 +57,12 @@ fn spell_each(bytes: &[u8], into: &mut Vec<u8>) -> Result<(), NoMemory>
 }
 
 /// Appends bytes as they are printed in a word, or changes nothing.
+/// With room for three bytes each it succeeds.
 pub fn spell(bytes: &[u8], into: &mut Vec<u8>) -> Result<(), NoMemory>
     ensures ok { OnOk result (into.new.items ≡ into.old.items ++ spelling bytes.now) }
     ensures err { OnErr result (into.new.items ≡ into.old.items) }
+    ensures full { OnErr result (vec_capacity into.old < vec_len into.old + 3 * length bytes.now) }
+    ensures capacity { vec_capacity into.old ≤ vec_capacity into.new }
 {
     let len = into.len();
     let done = spell_each(bytes, into);

@@ -1,16 +1,14 @@
 -- A store that was kept at the start of `exec` is kept at its end.
-use Rattle.std.proofs.Common.{◌≡◌, ◌≤◌, ◌<◌, ◌+◌, ◌-◌, inl, ℕ, List, [], ◌++◌, length, take, filter, Bool, IsTrue, Option, refl, sym, ap, ◌∙◌, subst, arith}
-use Rattle.std.specs.Prelude.{nat_le}
+use Rattle.std.proofs.Common.{◌≡◌, ◌≤◌, inl, ℕ, List, Bool, IsTrue, Option, refl, sym, ◌∙◌, subst, arith}
 use Rattle.ct_definitions.specs.declared.change.Transaction.{Transaction}
-use Rattle.ct_definitions.specs.Histories.{History, IsHistory, Begins, last_number}
-use Rattle.ct_disk.specs.Disk.{GoesOn, unchanged}
+use Rattle.ct_definitions.specs.Histories.{History, last_number}
 use Rattle.ct_laws.specs.Cut.{history_up_to}
 use Rattle.ct_laws.proofs.Histories.{filter_up_to, IsHistory-front, last_number-front, Begins-front}
 use Rattle.ct_log.specs.Reading.{IsRead}
 use Rattle.ct_log.specs.declared.head.Head.{Head}
-use Rattle.ct_yard.specs.Kept.{Founds, Kept, Recovers, empty_directory}
+use Rattle.ct_yard.specs.Kept.{Founds, Kept, empty_directory}
 use Rattle.ct_yard.specs.LogTexts.{HasTransactions, up_to_number}
-use Rattle.ct_yard.specs.Machine.{Machine, opened_machine}
+use Rattle.ct_yard.specs.Machine.{opened_machine}
 use Rattle.ct_tool.specs.declared.ended.Cause.{Cause}
 use Rattle.ct_tool.specs.Runs.{RanSession, StaysKept}
 

@@ -1,12 +1,12 @@
 -- A store that was just made is kept.
-use Rattle.std.proofs.Common.{◌≡◌, ◌≤◌, ℕ, List, [], ◌∷◌, ◌++◌, length, Bool, IsTrue, refl, sym, ◌∙◌, arith}
+use Rattle.std.proofs.Common.{◌≡◌, ◌≤◌, ℕ, List, [], length, Bool, IsTrue, refl, sym, ◌∙◌, arith}
 use Rattle.std.proofs.lemmas.List.{append-nil}
 use Rattle.ct_disk.specs.Disk.{Only}
 use Rattle.ct_log.specs.Front.{front}
 use Rattle.ct_log.proofs.Fronts.{length-front}
-use Rattle.ct_yard.specs.Kept.{Kept, Recovers, empty_directory}
+use Rattle.ct_yard.specs.Kept.{empty_directory}
 use Rattle.ct_yard.specs.LogTexts.{HasTransactions}
-use Rattle.ct_recover.specs.Creating.{empty_log, empty_history}
+use Rattle.ct_recover.specs.Creating.{empty_log}
 use Rattle.ct_tool.specs.Runs.{IsMade}
 
 empty_has : (id bytes : List ℕ) → length id ≤ 16 → bytes ≡ empty_log id → HasTransactions (front id 0) [] bytes

@@ -40,6 +40,7 @@ halted_by (Some Halt.Limit) = Limit
 -- why a run ended, by what stopped its input and what halted its store
 abbrev pub stopped_by : Stop → Option HaltCause → Cause
 stopped_by Input.End halt = halted_by halt
+stopped_by Input.Quit halt = halted_by halt
 stopped_by Input.Source halt = Source
 stopped_by Input.Sink halt = Sink
 stopped_by Input.Memory halt = Memory

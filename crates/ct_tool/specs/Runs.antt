@@ -1,6 +1,6 @@
 -- A run of the tool.
-use Rattle.std.specs.Prelude.{◌≡◌, ◌⊎◌, ◌≤◌, ℕ, List, [], ◌++◌, codes, decimal, length, sum_by, Bool, IsTrue, Option, None}
-use Rattle.std.specs.Io.KnownBytes.{Appends, Keeps}
+use Rattle.std.specs.Prelude.{◌≡◌, ◌⊎◌, ◌≤◌, ℕ, List, [], ◌∷◌, ◌++◌, codes, decimal, length, sum_by, Bool, true, IsTrue, Option, Some, None}
+use Rattle.std.specs.Io.KnownBytes.{Appends, IsAtEnd, Keeps}
 use Rattle.ct_definitions.specs.Changes.{State}
 use Rattle.ct_definitions.specs.Histories.{History, Begins, last_number}
 use Rattle.ct_laws.specs.Cut.{history_up_to}
@@ -17,23 +17,43 @@ use Rattle.ct_yard.specs.Yards.{StandsFor}
 use Rattle.ct_log.specs.Front.{front}
 use Rattle.ct_recover.specs.Opening.{Opens}
 use Rattle.ct_recover.specs.Creating.{empty_log, empty_history}
+use Rattle.ct_line.specs.declared.call.Call.TheVariants as calls
+use Rattle.ct_lines.specs.Lines.{lines_from}
 use Rattle.ct_session.specs.Replies.{spelling}
+use Rattle.ct_session.specs.Steps.{Visit, begun_visit, AsksFor}
 use Rattle.ct_tool.specs.declared.input.Stop.{Stop}
+use Rattle.ct_tool.specs.declared.input.Stop.TheVariants.{Quit}
 use Rattle.ct_tool.specs.declared.ended.Cause.{Cause}
 use Rattle.ct_tool.specs.declared.ended.Cause.TheVariants.{Done, Usage, Unbuilt, Undone, NotEmpty, BadLog, BadPage, Limit, Device, Memory, Source, Sink, Long}
 use Rattle.ct_tool.specs.Told.{AreLines, IsLeft, Moment, at_moment, KeptStep}
 use Rattle.ct_tool.specs.Ends.{stopped_by}
+
+-- one of the lines asks for the session's end
+abbrev pub HasQuit : List (Option (List ℕ)) → Type 0
+HasQuit [] = ⊥
+HasQuit (line ∷ lines) = AsksFor line calls.Quit ⊎ HasQuit lines
+
+-- such a line ended in what was taken
+abbrev pub TookQuit : Option (List ℕ) → Option (List ℕ) → Type 0
+TookQuit taken now_taken = (bytes : List ℕ) × Appends taken now_taken bytes × HasQuit (lines_from (Some []) bytes)
+
+-- the source is at its end, or a line ended the session
+abbrev pub IsOver : Option (List ℕ) → Option (List ℕ) → Option (List ℕ) → Type 0
+IsOver left taken now_taken = IsAtEnd left ⊎ TookQuit taken now_taken
 
 -- One session ran from a moment on: its replies to the lines of what was taken are what was written, but for what the sink
 -- refused; the number in front is that of the run's last transaction; and whatever a crash leaves of the log at the end is that
 -- of a prefix of the run's history which has each acknowledged transaction.
 pub record IsSession {L : Type 0} (founded : Bool) (may_leave : L → List ℕ → Type 0) (left_since : L → L → List ℕ → Type 0) (front : List ℕ) (start : Moment L) (now : L) (stop : Stop) (bytes : List ℕ) (cause : Cause) (number : ℕ) (written now_written : Option (List ℕ)) : Type 0 where
   pub end : Machine
+  pub visit : Visit
   pub lines : List (Option (List ℕ))
   pub left : List ℕ
   pub lines_are : AreLines stop bytes lines
-  pub answered : Answered (KeptStep founded left_since front) spelling start lines (record { machine = end; log = now }) written now_written [] left
+  pub answered : Answered (KeptStep founded left_since front) spelling start lines (record { machine = end; visit = visit; log = now }) written now_written [] left
   pub put : IsLeft stop left
+  -- where QUIT stopped the input, the session has ended
+  pub quit : stop ≡ Quit → visit.ended ≡ true
   pub last : number ≡ last_number end.history
   pub why : cause ≡ stopped_by stop end.halt
   pub begins : Begins (start.machine).history end.history
@@ -50,7 +70,7 @@ pub record RanOver {P L : Type 0} (tells : Bool) (count_of : L → ℕ) (content
   pub bytes : List ℕ
   pub took : Appends taken now_taken bytes
   pub ran : (founded : Bool) (front : List ℕ) (machine : Machine) → (IsTrue founded → IsTrue tells) → StandsFor founded count_of content may_leave front machine yard → machine.halt ≡ None
-      → IsSession founded may_leave left_since front (at_moment machine yard) now stop bytes cause number written now_written
+      → IsSession founded may_leave left_since front (at_moment machine begun_visit yard) now stop bytes cause number written now_written
 
 -- a yard was opened from a log; where that holds a history as a store leaves it, the yard stands for this history
 pub record IsOpened {P L : Type 0} (tells : Bool) (count_of : L → ℕ) (content : L → List ℕ) (may_leave : L → List ℕ → Type 0) (log : L) (yard : Yard P L) : Type 0 where

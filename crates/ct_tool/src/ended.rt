@@ -104,12 +104,12 @@ impl<P, L> Ended<P, L> {
     }
 }
 
-/// Why a session's run ended: what stopped its input, or, at the input's end, what halted the store.
+/// Why a session's run ended: what stopped its input, or, at the input's or the session's end, what halted the store.
 pub(crate) fn cause_of(stop: Stop, halt: Option<HaltCause>) -> Cause
     ensures { result ≡ stopped_by stop halt }
 {
     match stop {
-        Stop::End => match halt {
+        Stop::End | Stop::Quit => match halt {
             None => Cause::Done,
             Some(HaltCause::Write | HaltCause::Read) => Cause::Device,
             Some(HaltCause::Memory) => Cause::Memory,

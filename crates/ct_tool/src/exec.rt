@@ -1,7 +1,7 @@
 //! `exec`: the store opened, and one session over the input.
 
 ghost use Rattle.std.specs.Prelude.{◌≡◌, ◌⊎◌, ◌<◌, ◌≤◌, ◌+◌, ◌^◌, ℕ, List, false, IsTrue};
-ghost use Rattle.std.specs.Io.KnownBytes.{IsAtEnd, Keeps};
+ghost use Rattle.std.specs.Io.KnownBytes.{Keeps};
 ghost use Rattle.ct_definitions.specs.Histories.{History};
 ghost use Rattle.ct_log.specs.Heads.{has_open_header};
 ghost use Rattle.ct_log.specs.declared.head.Head.{Head};
@@ -9,7 +9,7 @@ ghost use Rattle.ct_yard.specs.Kept.{Founds, Kept};
 ghost use Rattle.ct_log.specs.Reading.{IsRead, log_bytes};
 ghost use Rattle.ct_recover.specs.Opening.{IsBad};
 ghost use Rattle.ct_tool.specs.Ends.{status_of};
-ghost use Rattle.ct_tool.specs.Runs.{RanSession, RanNone, StaysKept, IsExecCause, HasRunCause};
+ghost use Rattle.ct_tool.specs.Runs.{RanSession, RanNone, IsOver, StaysKept, IsExecCause, HasRunCause};
 
 use crate::ended::{Cause, Ended, open_cause};
 use crate::session::{Room, run_session};
@@ -38,7 +38,7 @@ pub(crate) fn exec<P: Disk, L: Disk, I: Source, O: Sink>(
     ensures undone { IsTrue L.tells → result.cause ≡ Cause.Undone → has_open_header (L.content log) ≡ false }
     ensures bad { IsTrue L.tells → (place : ℕ) → result.cause ≡ Cause.BadLog place → IsBad (log_bytes (L.content log)) place }
     ensures cause { HasRunCause result.cause (P.faults pages) (P.faults result.pages) (L.faults log) (L.faults result.log) (I.faults input.old) (I.faults input.new) (O.faults out.old) (O.faults out.new) }
-    ensures done { result.cause ≡ Cause.Done → IsAtEnd (I.left input.new) × (I.count input.new ≤ I.count input.old + 2 ^ 40) }
+    ensures done { result.cause ≡ Cause.Done → IsOver (I.left input.new) (I.taken input.old) (I.taken input.new) × (I.count input.new ≤ I.count input.old + 2 ^ 40) }
     ensures long { result.cause ≡ Cause.Long → I.count input.old + 2 ^ 40 < I.count input.new }
 {
     let Ok(room) = Room::new(alloc) else {

@@ -8,6 +8,8 @@ mod create;
 mod ended;
 mod exec;
 mod input;
+#[cfg(test)]
+mod rows;
 mod run;
 mod session;
 #[cfg(test)]

@@ -1,7 +1,7 @@
 //! The top call: what the words ask for, done over two devices, an input and an output.
 
 ghost use Rattle.std.specs.Prelude.{◌≡◌, ◌≢◌, ◌⊎◌, ◌<◌, ◌≤◌, ◌+◌, ◌^◌, ◌∷◌, [], ℕ, List, Some, None, true, false, map, codes, IsTrue, string_bytes};
-ghost use Rattle.std.specs.Io.KnownBytes.{IsAtEnd, Keeps};
+ghost use Rattle.std.specs.Io.KnownBytes.{Keeps};
 ghost use Rattle.ct_disk.specs.Disk.{AllImages};
 ghost use Rattle.ct_definitions.specs.Histories.{History};
 ghost use Rattle.ct_log.specs.Heads.{has_open_header};
@@ -13,7 +13,7 @@ ghost use Rattle.ct_recover.specs.Opening.{IsBad};
 ghost use Rattle.ct_words.specs.Commands.{Asks, AskCreate, is_id};
 ghost use Rattle.ct_words.specs.declared.commands.Command.TheVariants.{Unbuilt as Other};
 ghost use Rattle.ct_tool.specs.Ends.{status_of};
-ghost use Rattle.ct_tool.specs.Runs.{RanSession, RanNone, StaysKept, Checked, IsMade, MadeBy, PutsOrKeeps, IsCreateCause, IsOpenCause, IsWordCause, HasRunCause};
+ghost use Rattle.ct_tool.specs.Runs.{RanSession, RanNone, IsOver, StaysKept, Checked, IsMade, MadeBy, PutsOrKeeps, IsCreateCause, IsOpenCause, IsWordCause, HasRunCause};
 
 use crate::check::check;
 use crate::create::create;
@@ -75,7 +75,7 @@ pub fn run_tool<P: Disk, L: Disk, I: Source, O: Sink>(
     ensures not_empty { IsTrue L.tells → result.cause ≡ Cause.NotEmpty → has_open_header (L.content log) ≡ true }
     ensures bad_log { IsTrue L.tells → (place : ℕ) → result.cause ≡ Cause.BadLog place → IsBad (log_bytes (L.content log)) place }
     ensures cause { HasRunCause result.cause (P.faults pages) (P.faults result.pages) (L.faults log) (L.faults result.log) (I.faults input.old) (I.faults input.new) (O.faults out.old) (O.faults out.new) }
-    ensures done { map string_bytes words.now ≡ codes "exec" ∷ [] → result.cause ≡ Cause.Done → IsAtEnd (I.left input.new) × (I.count input.new ≤ I.count input.old + 2 ^ 40) }
+    ensures done { map string_bytes words.now ≡ codes "exec" ∷ [] → result.cause ≡ Cause.Done → IsOver (I.left input.new) (I.taken input.old) (I.taken input.new) × (I.count input.new ≤ I.count input.old + 2 ^ 40) }
     ensures long { result.cause ≡ Cause.Long → I.count input.old + 2 ^ 40 < I.count input.new }
 {
     match command_of(words) {

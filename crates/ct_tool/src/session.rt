@@ -1,13 +1,12 @@
 //! One session over the input, on a store that was opened.
 
 ghost use Rattle.std.specs.Prelude.{◌≡◌, ◌≢◌, ◌≤◌, ◌<◌, ◌+◌, ◌^◌, [], Bool, List, ℕ, Some, None, IfOk, IsTrue, vec_capacity, vec_len};
-ghost use Rattle.std.specs.Io.KnownBytes.{IsAtEnd};
 ghost use Rattle.ct_yard.specs.Machine.{Machine};
 ghost use Rattle.ct_yard.specs.Yards.{IsSettled, StandsFor};
 ghost use Rattle.ct_tool.specs.Ends.{status_of};
 ghost use Rattle.ct_tool.specs.declared.session.TheConstants.{BLOCK};
 ghost use Rattle.ct_tool.specs.declared.block.TheConstants.{REPLIES_ROOM};
-ghost use Rattle.ct_tool.specs.Runs.{RanOver, IsSessionCause, HasRunCause};
+ghost use Rattle.ct_tool.specs.Runs.{RanOver, IsOver, IsSessionCause, HasRunCause};
 
 use crate::block::REPLIES_ROOM;
 use crate::ended::{Cause, Ended, cause_of};
@@ -16,11 +15,15 @@ use ct_disk::Disk;
 use ct_items::NoMemory;
 use ct_lines::Held;
 use ct_link::{Sink, Source};
+use ct_session::SessionRun;
 use ct_yard::Yard;
 use std::alloc::Global;
 
 /// Input is taken in blocks of this many bytes.
 const BLOCK: usize = 65536;
+
+/// The tool has one session.
+const SESSION: u32 = 1;
 
 /// The memory of a session, taken before anything else is done.
 #[derive(Drop)]
@@ -61,7 +64,8 @@ pub(crate) fn run_session<P: Disk, L: Disk, I: Source, O: Sink>(
     ensures ran { RanOver L.tells L.faults L.content L.may_leave L.left_since yard result.log result.cause result.front (I.taken input.old) (I.taken input.new) (O.written out.old) (O.written out.new) }
     ensures cause { (founded : Bool) (front : List ℕ) (machine : Machine) → (IsTrue founded → IsTrue L.tells) → StandsFor founded L.faults L.content L.may_leave front machine yard → machine.halt ≡ None
         → IsSessionCause result.cause × HasRunCause result.cause (P.faults yard.pages) (P.faults result.pages) (L.faults yard.log.device) (L.faults result.log) (I.faults input.old) (I.faults input.new) (O.faults out.old) (O.faults out.new) }
-    ensures done { result.cause ≡ Cause.Done → IsAtEnd (I.left input.new) × (I.count input.new ≤ I.count input.old + 2 ^ 40) }
+    ensures done { (founded : Bool) (front : List ℕ) (machine : Machine) → (IsTrue founded → IsTrue L.tells) → StandsFor founded L.faults L.content L.may_leave front machine yard → machine.halt ≡ None
+        → result.cause ≡ Cause.Done → IsOver (I.left input.new) (I.taken input.old) (I.taken input.new) × (I.count input.new ≤ I.count input.old + 2 ^ 40) }
     ensures long { result.cause ≡ Cause.Long → I.count input.old + 2 ^ 40 < I.count input.new }
 {
     let Room {
@@ -69,8 +73,19 @@ pub(crate) fn run_session<P: Disk, L: Disk, I: Source, O: Sink>(
         mut block,
         mut replies,
     } = room;
+    let mut run = SessionRun::new(alloc, SESSION);
     let block = block.as_mut_slice();
-    let stop = serve_input(alloc, &mut yard, &mut held, block, &mut replies, input, out);
+    let stop = serve_input(
+        alloc,
+        &mut yard,
+        &mut run,
+        &mut held,
+        block,
+        &mut replies,
+        input,
+        out,
+    );
+    run.finish();
     let Yard {
         pages,
         state: _,

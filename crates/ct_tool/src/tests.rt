@@ -114,6 +114,101 @@ fn exec_in_pieces(alloc: Global, most: usize) -> Result<(Cause, MemSink), NoMemo
 }
 
 #[test]
+fn a_store_is_made(rt: HostRuntime) -> Result<(), Fail> {
+    let (cause, store, out) = run_on(rt.alloc(), "create shop", empty(rt.alloc()), b"")?;
+    assert_eq!(rt; cause, Cause::Done);
+    assert_eq!(rt; out.bytes(), b"OK 0\n".as_slice());
+    assert_eq!(rt; store.pages.bytes().len(), 4096);
+    Ok(())
+}
+
+#[test]
+fn a_session_over_no_lines_writes_nothing(rt: HostRuntime) -> Result<(), Fail> {
+    let mut input = MemSource::new(rt.alloc(), b"")?;
+    let mut out = MemSink::new(rt.alloc());
+    let store = made(rt.alloc(), b"")?;
+    let (cause, front, _store) = run_to_front(rt.alloc(), "exec", store, &mut input, &mut out)?;
+    assert_eq!(rt; cause, Cause::Done);
+    assert_eq!(rt; front, 0);
+    assert_eq!(rt; out.bytes(), b"".as_slice());
+    Ok(())
+}
+
+#[test]
+fn a_session_writes_its_replies_and_its_log(rt: HostRuntime) -> Result<(), Fail> {
+    let (cause, store, out) = run_on(rt.alloc(), "exec", made(rt.alloc(), b"")?, LINES)?;
+    assert_eq!(rt; cause, Cause::Done);
+    assert_eq!(rt; out.bytes(), REPLIES.as_slice());
+    assert_eq!(rt; store.log.bytes().len(), 12389);
+    Ok(())
+}
+
+#[test]
+fn a_store_is_counted(rt: HostRuntime) -> Result<(), Fail> {
+    let (cause, told) = checked(rt.alloc(), made(rt.alloc(), LINES)?)?;
+    assert_eq!(rt; cause, Cause::Done);
+    assert_eq!(rt; told.bytes(), b"OK 2 1 1\n".as_slice());
+    Ok(())
+}
+
+#[test]
+fn a_store_is_made_once(rt: HostRuntime) -> Result<(), Fail> {
+    let store = made(rt.alloc(), b"")?;
+    let (cause, _store, out) = run_on(rt.alloc(), "create shop", store, b"")?;
+    assert_eq!(rt; cause, Cause::NotEmpty);
+    assert_eq!(rt; out.bytes(), b"".as_slice());
+    Ok(())
+}
+
+#[test]
+fn empty_devices_hold_no_store(rt: HostRuntime) -> Result<(), Fail> {
+    let (cause, _store, out) = run_on(rt.alloc(), "exec", empty(rt.alloc()), LINES)?;
+    assert_eq!(rt; cause, Cause::Undone);
+    assert_eq!(rt; out.bytes(), b"".as_slice());
+    Ok(())
+}
+
+// what a session on a new store writes
+fn answered(alloc: Global, lines: &[u8]) -> Result<(Cause, MemSink), NoMemory> {
+    let (cause, _store, out) = run_on(alloc, "exec", made(alloc, b"")?, lines)?;
+    Ok((cause, out))
+}
+
+#[test]
+fn lines_outside_the_grammar_have_their_place(rt: HostRuntime) -> Result<(), Fail> {
+    let lines = b"HELLO\nGET part\nADD part a\\0\nFIRST part id extra\n\n";
+    let (cause, out) = answered(rt.alloc(), lines)?;
+    assert_eq!(rt; cause, Cause::Done);
+    let wanted = b"ERR BADLINE 0\nERR BADLINE 8\nERR BADLINE 10\nERR BADLINE 14\nERR BADLINE 0\n";
+    assert_eq!(rt; out.bytes(), wanted.as_slice());
+    Ok(())
+}
+
+#[test]
+fn a_long_line_is_answered_once(rt: HostRuntime) -> Result<(), Fail> {
+    let mut lines = vec![in rt.alloc(); b'x'; 20000]?;
+    lines.push(b'\n')?;
+    let (cause, out) = answered(rt.alloc(), &lines)?;
+    assert_eq!(rt; cause, Cause::Done);
+    assert_eq!(rt; out.bytes(), b"ERR BADLINE 16384\n".as_slice());
+    Ok(())
+}
+
+// the input's second call fails, so a run that goes on after the first ends with `SOURCE`
+#[test]
+fn quit_stops_the_session(rt: HostRuntime) -> Result<(), Fail> {
+    let mut input = MemSource::new(rt.alloc(), b"HELLO\nQUIT\nHELLO\nHELLO\n")?;
+    input.in_pieces(17);
+    input.fail_at(2)?;
+    let mut out = MemSink::new(rt.alloc());
+    let store = made(rt.alloc(), b"")?;
+    let (cause, _store) = run(rt.alloc(), "exec", store, &mut input, &mut out)?;
+    assert_eq!(rt; cause, Cause::Done);
+    assert_eq!(rt; out.bytes(), b"ERR BADLINE 0\nOK\n".as_slice());
+    Ok(())
+}
+
+#[test]
 fn pieces_make_no_difference(rt: HostRuntime) -> Result<(), Fail> {
     let runs = [
         exec_in_pieces(rt.alloc(), 1)?,
@@ -133,7 +228,7 @@ fn an_unfinished_and_a_long_line_are_answered(rt: HostRuntime) -> Result<(), Fai
     text.extend_from_slice(b"\nGET part id 0001")?;
     let (cause, _store, out) = run_on(rt.alloc(), "exec", made(rt.alloc(), b"")?, &text)?;
     assert_eq!(rt; cause, Cause::Done);
-    assert_eq!(rt; out.bytes(), b"ERR UNBUILT\nERR UNBUILT\n".as_slice());
+    assert_eq!(rt; out.bytes(), b"ERR BADLINE 16384\nERR NOFILE\n".as_slice());
     Ok(())
 }
 

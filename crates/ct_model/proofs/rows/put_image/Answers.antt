@@ -1,9 +1,14 @@
 use Rattle.std.proofs.Common.{sym, ◌∙◌}
-use Rattle.ct_model.proofs.Edits.{found-with_image, none-with_image}
+use Rattle.ct_model.proofs.Places.{set_there, unset_there}
 use Rattle.ct_model.proofs.rows.put_image.Goals as goal
 
-pub returns-in-Some : goal.returns-in-Some
-returns-in-Some c = c.replace-old.ensures.after ∙ found-with_image _ _ _ _ (sym c.in-Some.ensures)
+pub returns-then-stands_at : goal.returns-then-stands_at
+returns-then-stands_at c =
+    c.replace-old.ensures.after
+    ∙ set_there c.args.num c.args.image c.args.rows.now c.place_of-place.result c.requires
+    (rw c.as_slice.ensures at c.place_of-place.ensures.value) (rw c.as_slice-2.ensures at (sym c.stands_at.ensures ∙ c.if-stands_at.true))
 
-pub returns-in_default : goal.returns-in_default
-returns-in_default c = sym (none-with_image _ c.args.image _ (sym c.place_of.ensures ∙ c.in_default.is))
+pub returns-else-stands_at : goal.returns-else-stands_at
+returns-else-stands_at c =
+    sym (unset_there c.args.num c.args.image c.args.rows.now c.place_of-place.result c.requires
+    (rw c.as_slice.ensures at c.place_of-place.ensures.value) (rw c.as_slice-2.ensures at (sym c.stands_at.ensures ∙ c.if-stands_at.false)))

@@ -1,5 +1,4 @@
-use Rattle.std.proofs.Common.{◌≡◌, ℕ, sym, ◌∙◌, inl, subst}
-use Rattle.ct_tool.specs.Runs.{PutsOrKeeps, check_line}
+use Rattle.std.proofs.Common.{sym, ◌∙◌, inl}
 use Rattle.ct_tool.proofs.Endings.{put_is_not_bad, opened_bad}
 use Rattle.ct_tool.proofs.check.check.Goals as goal
 

@@ -1,4 +1,4 @@
-use Rattle.std.proofs.Common.{◌≡◌, ℕ, refl, sym, ◌∙◌, inl, inr, subst}
+use Rattle.std.proofs.Common.{refl, sym, ◌∙◌, inl, inr, subst}
 use Rattle.std.proofs.KnownBytes.{Keeps-refl}
 use Rattle.ct_yard.specs.Machine.{opened_machine}
 use Rattle.ct_tool.specs.declared.ended.Cause.{Cause}
@@ -86,3 +86,9 @@ returns-in-Err-clause-run g c = inr (
   Keeps-refl (g.O.Sink.written c.args.out.now),
   λ tells. subst (λ d. IsRead g.L.Disk.content g.L.Disk.may_leave g.L.Disk.left_since c.args.log d) (sym c.by-in-Err.ensures.log) (c.in-Err.ensures.log tells),
 )
+
+pub returns-in-Ok-open_store-clause-done : goal.returns-in-Ok-open_store-clause-done
+returns-in-Ok-open_store-clause-done g c = λ why.
+    c.run_session.ensures.done (founded g.L.Disk.tells (g.L.Disk.content c.args.log) c.in-Ok-open_store.yard.log.flow.end) c.in-Ok-open_store.ensures.opened.front
+    (opened_machine c.in-Ok-open_store.ensures.opened.history (g.L.Disk.faults c.in-Ok-open_store.yard.log.device) c.in-Ok-open_store.yard.log.flow.end c.in-Ok-open_store.yard.log.flow.next)
+    (founded_tells g.L.Disk.tells (g.L.Disk.content c.args.log) c.in-Ok-open_store.yard.log.flow.end) c.in-Ok-open_store.ensures.opened.stands refl why

@@ -1,4 +1,4 @@
-use Rattle.std.proofs.Common.{◌≡◌, ℕ, Some, sym, ap, ◌∙◌, subst}
+use Rattle.std.proofs.Common.{Some, sym, ap, ◌∙◌}
 use Rattle.ct_words.specs.declared.commands.Command.{Command}
 use Rattle.ct_tool.proofs.Endings.{create_is_not_bad, log_id}
 use Rattle.ct_tool.proofs.run.run_tool.Goals as goal

@@ -1,0 +1,4 @@
+pub mod PageLaws
+pub mod PageReads
+pub mod Replays
+pub mod Oldest

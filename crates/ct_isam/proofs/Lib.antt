@@ -1,0 +1,5 @@
+pub mod Seats
+pub mod Outcomes
+pub mod Added
+pub mod Described
+pub mod Served

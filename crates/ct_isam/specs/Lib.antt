@@ -1,0 +1,10 @@
+pub mod Seats
+pub mod Replies
+pub mod Searches
+pub mod Calls
+pub mod Serving
+pub mod Told
+pub mod Undoing
+pub mod Places
+pub mod Looking
+pub mod Making

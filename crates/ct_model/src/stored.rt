@@ -1,0 +1,149 @@
+//! A file with what is kept beside it, through each change of its records.
+//! What holds of both stands in `specs/Stored.antt`.
+
+ghost use Rattle.std.specs.Prelude.{◌≡◌, ◌<◌, ◌≤◌, ℕ, [], length, true, None, IfSome, IfNone, IfOk, OnOk, OnErr, ◌^◌};
+ghost use Rattle.ct_definitions.specs.Validity.{is_valid};
+ghost use Rattle.ct_definitions.specs.Room.{has_fitting_len, row_at, block_of};
+ghost use Rattle.ct_definitions.specs.Changes.{with_row, with_image, without_row, with_records};
+ghost use Rattle.ct_model.specs.Free.{IsFree, IsNotFree};
+ghost use Rattle.ct_model.specs.EachIndex.{pairs_of_each};
+ghost use Rattle.ct_model.specs.Stored.{IsStored};
+
+use crate::cache::Cache;
+use crate::index_pairs::{exchange_pairs, put_pairs, take_pairs};
+use crate::room::{first_open, lowest_free_from};
+use crate::rows::{image_at, put_image, put_row, take_row};
+use crate::validity::least_len;
+use ct_definitions::{Bytes, File, FileDef, IndexDef, LONGEST_IMAGE, RECORDS_PER_BLOCK, Row, Rows};
+use ct_items::NoMemory;
+use ct_pairs::Pairs;
+use std::alloc::Global;
+
+/// A file with no records.
+pub(crate) fn new_file(alloc: Global, def: FileDef) -> File
+    ensures { result ≡ record { def = def; records = [] } }
+{
+    File {
+        def,
+        records: Rows::new(alloc),
+    }
+}
+
+// no pairs for each index
+fn no_pairs(alloc: Global, indexes: &[IndexDef]) -> Result<Vec<Pairs>, NoMemory>
+    ensures { IfOk result (λ pairs. pairs.items ≡ pairs_of_each indexes.now []) }
+{
+    let mut pairs = Vec::new(alloc);
+    for _index in indexes {
+        pairs.push(Pairs::new(alloc))?;
+    }
+    Ok(pairs)
+}
+
+/// What is kept beside a file with no records.
+pub(crate) fn new_cache(alloc: Global, file: &File) -> Result<Cache, NoMemory>
+    requires valid { is_valid file.now.def ≡ true }
+    requires empty { file.now.records ≡ [] }
+    ensures { IfOk result (λ cache. IsStored file.now cache) }
+{
+    let pairs = no_pairs(alloc, file.def.indexes.as_slice())?;
+    Ok(Cache {
+        full_below: 0,
+        pairs,
+    })
+}
+
+// a copy of the image
+fn copy_of(image: &Bytes) -> Result<Bytes, NoMemory>
+    ensures { IfOk result (λ copy. copy ≡ image.now) }
+{
+    Ok(image.clone()?)
+}
+
+/// Puts a record of a free number into the file.
+pub(crate) fn add_row(
+    alloc: Global,
+    file: &mut File,
+    cache: &mut Cache,
+    num: u64,
+    image: &Bytes,
+) -> Result<(), NoMemory>
+    requires stored { IsStored file.old cache.old }
+    requires len { has_fitting_len file.old.def.kind (length image.now) ≡ true }
+    requires num { 1 ≤ num }
+    requires free { row_at num file.old.records ≡ None }
+    ensures ok { OnOk result (file.new ≡ with_records file.old (with_row (record { num = num; image = image.now }) file.old.records)) }
+    ensures err { OnErr result (file.new ≡ file.old) }
+    ensures stored { IsStored file.new cache.new }
+{
+    let copy = copy_of(image)?;
+    put_row(&mut file.records, Row { num, image: copy })?;
+    let indexes = file.def.indexes.as_slice();
+    let pairs = cache.pairs.as_mut_slice();
+    if let Err(refusal) = put_pairs(alloc, pairs, indexes, num, image.as_slice()) {
+        take_row(&mut file.records, num);
+        return Err(refusal);
+    }
+    let least = least_len(file.def.kind) as usize;
+    cache.full_below = first_open(cache.full_below, least, file.records.as_slice());
+    Ok(())
+}
+
+/// Gives the record of the number in the file another image.
+pub(crate) fn rewrite_row(
+    alloc: Global,
+    file: &mut File,
+    cache: &mut Cache,
+    num: u64,
+    image: &Bytes,
+) -> Result<(), NoMemory>
+    requires stored { IsStored file.old cache.old }
+    requires len { has_fitting_len file.old.def.kind (length image.now) ≡ true }
+    ensures ok { OnOk result (file.new ≡ with_records file.old (with_image num image.now file.old.records)) }
+    ensures err { OnErr result (file.new ≡ file.old) }
+    ensures stored { IsStored file.new cache.new }
+{
+    let copy = copy_of(image)?;
+    let Some(old) = image_at(num, file.records.as_slice()) else {
+        return Ok(());
+    };
+    let shrinks = image.as_slice().len() < old.len();
+    let indexes = file.def.indexes.as_slice();
+    let pairs = cache.pairs.as_mut_slice();
+    exchange_pairs(alloc, pairs, indexes, num, old, image.as_slice())?;
+    put_image(&mut file.records, num, copy);
+    if shrinks {
+        cache.full_below = cache.full_below.min(num / RECORDS_PER_BLOCK);
+    }
+    Ok(())
+}
+
+/// Takes the record of the number out of the file.
+pub(crate) fn delete_row(alloc: Global, file: &mut File, cache: &mut Cache, num: u64)
+    requires { IsStored file.old cache.old }
+    ensures rows { file.new ≡ with_records file.old (without_row num file.old.records) }
+    ensures stored { IsStored file.new cache.new }
+{
+    let Some(old) = image_at(num, file.records.as_slice()) else {
+        return;
+    };
+    let indexes = file.def.indexes.as_slice();
+    take_pairs(alloc, cache.pairs.as_mut_slice(), indexes, num, old);
+    take_row(&mut file.records, num);
+    cache.full_below = cache.full_below.min(num / RECORDS_PER_BLOCK);
+}
+
+/// The lowest number, from 1 on, that is free in the file for images of `len` bytes.
+pub(crate) fn lowest_free_in_file(file: &File, cache: &Cache, len: usize) -> Option<u64>
+    requires stored { IsStored file.now cache.now }
+    requires len { len ≤ LONGEST_IMAGE }
+    ensures found { IfSome result (λ num. (1 ≤ num) × IsFree num len file.now.records) }
+    ensures lowest { IfSome result (λ num. (lower : ℕ) → 1 ≤ lower → lower < num → IsNotFree lower len file.now.records) }
+    ensures none { IfNone result ((num : ℕ) → 1 ≤ num → num < 2 ^ 64 → IsNotFree num len file.now.records) }
+{
+    let rows = file.records.as_slice();
+    if len < least_len(file.def.kind) as usize {
+        return lowest_free_from(0, len, rows);
+    }
+    lowest_free_from(cache.full_below, len, rows)
+}

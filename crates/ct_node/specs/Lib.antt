@@ -1,0 +1,6 @@
+pub mod Nodes
+pub mod Cells
+pub mod Places
+pub mod Stored
+pub mod Halves
+pub use Rattle.ct_definitions.specs.Pairs

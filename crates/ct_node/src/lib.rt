@@ -1,0 +1,16 @@
+//! Nodes of an index: a page of pairs in order, and the edits of one.
+//! A node stands in the value itself and takes no memory. Its entries are kept as the bytes of the
+//! page, in cells of one width, so a pair is found by halves and an edit moves bytes once.
+#![tactic(auto)]
+
+mod cells;
+mod edge;
+mod node;
+mod pair;
+mod target;
+#[cfg(test)]
+mod tests;
+
+pub use node::Node;
+pub use pair::Pair;
+pub use target::{Place, Target};

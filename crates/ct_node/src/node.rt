@@ -1,0 +1,374 @@
+//! A node: its bounds, its right link and its entries, and the edits of one.
+
+ghost use Rattle.std.specs.Prelude.{◌≡◌, ◌≤◌, ◌<◌, ◌+◌, ◌*◌, [], ◌++◌, length, take, drop, filter, slice_get, false, true, nat_lt, if◌then◌else◌, None};
+ghost use Rattle.std.specs.List.{prefix_len};
+ghost use Rattle.std.specs.Option.{option_map_or};
+ghost use Rattle.std.specs.Ordering.{is_eq};
+ghost use Rattle.ct_definitions.specs.Pairs.{pair_cmp, with_pair};
+ghost use Rattle.ct_node.specs.Nodes.{IsNode, pairs_in, capacity_of, is_from, is_below, is_within, has_pair, with_entry, has_other_pair};
+ghost use Rattle.ct_node.specs.Cells.{cells_of, pair_at};
+ghost use Rattle.ct_node.specs.Places.{is_before, is_past, is_ahead, here, down, next_place};
+ghost use Rattle.ct_node.specs.Halves.{middle_of, upper_half, lower_half};
+
+use crate::cells::{
+    cmp_at, copy_cells, count_before, insert_entry, page_at, remove_cell, width_of,
+};
+use crate::edge::Edge;
+use crate::pair::Pair;
+use crate::target::{Place, Target};
+use std::marker::Model;
+
+/// How many bytes of a page a node has for its bounds and entries.
+const BODY: usize = 3968;
+
+/// A node of an index. It stands in the value itself, some 4 KiB, and takes no memory.
+///
+/// Contracts see its file and index, whether it is a leaf, the length of its keys, its bounds, its
+/// right link and its entries in order.
+#[derive(Drop)]
+pub struct Node {
+    file: u16,
+    index: u16,
+    leaf: bool,
+    key_len: usize,
+    low: Option<Edge>,
+    high: Option<Edge>,
+    right: u64,
+    count: usize,
+    cells: [u8; BODY],
+}
+
+impl Model for Node {
+    ghost use Rattle.ct_node.specs.Nodes.{NodeValue, IsNode};
+
+    ghost Value = { NodeValue };
+
+    ghost use Rattle.ct_node.specs.Stored.{value_of};
+
+    ghost view = { value_of };
+
+    ghost invariant = { λ node. IsNode (value_of node) };
+}
+
+impl Node {
+    /// A node without entries, open to both sides and without a right link.
+    pub fn new(file: u16, index: u16, leaf: bool, key_len: u16) -> Node
+        requires some_key { 1 ≤ key_len }
+        requires short_key { key_len ≤ 128 }
+        ensures file { result.file ≡ file }
+        ensures index { result.index ≡ index }
+        ensures leaf { result.leaf ≡ leaf }
+        ensures key_len { result.key_len ≡ key_len }
+        ensures low { result.low ≡ None }
+        ensures high { result.high ≡ None }
+        ensures right { result.right ≡ 0 }
+        ensures entries { result.entries ≡ [] }
+    {
+        Node {
+            file,
+            index,
+            leaf,
+            key_len: usize::from(key_len),
+            low: None,
+            high: None,
+            right: 0,
+            count: 0,
+            cells: [0; BODY],
+        }
+    }
+
+    pub fn file(&self) -> u16
+        ensures { result ≡ self.now.file }
+    {
+        self.file
+    }
+
+    pub fn index(&self) -> u16
+        ensures { result ≡ self.now.index }
+    {
+        self.index
+    }
+
+    pub fn is_leaf(&self) -> bool
+        ensures { result ≡ self.now.leaf }
+    {
+        self.leaf
+    }
+
+    pub fn key_len(&self) -> usize
+        ensures { result ≡ self.now.key_len }
+    {
+        self.key_len
+    }
+
+    /// The page to the right, or 0 where there is none.
+    pub fn right(&self) -> u64
+        ensures { result ≡ self.now.right }
+    {
+        self.right
+    }
+
+    /// How many entries it has.
+    pub fn count(&self) -> usize
+        ensures count { result ≡ length self.now.entries }
+        ensures node { IsNode self.now }
+    {
+        self.count
+    }
+
+    /// Whether it has room for one more entry.
+    pub fn fits(&self) -> bool
+        ensures { result ≡ nat_lt (length self.now.entries) (capacity_of self.now.key_len self.now.leaf) }
+    {
+        self.count < capacity_of(self.key_len, self.leaf)
+    }
+
+    /// Whether it has a pair.
+    pub fn has(&self, pair: &Pair) -> bool
+        ensures { result ≡ has_pair pair.now (pairs_in self.now) }
+    {
+        let width = width_of(self.key_len, self.leaf);
+        let place = self.count_before(pair, false);
+        let cells = self.cells.as_slice();
+        is_cell_of(cells, place, self.count, width, self.key_len, pair)
+    }
+
+    /// Whether a pair is within its bounds.
+    pub fn covers(&self, pair: &Pair) -> bool
+        ensures { result ≡ is_within self.now.low self.now.high pair.now }
+    {
+        self.is_from(pair) && self.is_below(pair)
+    }
+
+    fn is_from(&self, pair: &Pair) -> bool
+        ensures { result ≡ is_from self.now.low pair.now }
+    {
+        let Some(low) = self.low else {
+            return true;
+        };
+        !low.cmp_pair(self.key_len, pair).is_gt()
+    }
+
+    fn is_below(&self, pair: &Pair) -> bool
+        ensures { result ≡ is_below self.now.high pair.now }
+    {
+        let Some(high) = self.high else {
+            return true;
+        };
+        high.cmp_pair(self.key_len, pair).is_gt()
+    }
+
+    /// Puts a pair into a leaf.
+    pub fn put(&mut self, pair: &Pair)
+        requires leaf { self.old.leaf ≡ true }
+        requires fits { length self.old.entries < capacity_of self.old.key_len self.old.leaf }
+        requires key { length pair.now.key ≡ self.old.key_len }
+        requires absent { has_pair pair.now (pairs_in self.old) ≡ false }
+        requires within { is_within self.old.low self.old.high pair.now ≡ true }
+        ensures node { self.new ≡ record self.old { entries = with_entry (record { pair = pair.now; child = 0 }) self.old.entries } }
+        ensures pairs { pairs_in self.new ≡ with_pair pair.now (pairs_in self.old) }
+    {
+        self.insert(pair, 0);
+    }
+
+    /// Posts a page below to an inner node, for the pairs from `low` on.
+    pub fn post(&mut self, low: &Pair, child: u64)
+        requires inner { self.old.leaf ≡ false }
+        requires fits { length self.old.entries < capacity_of self.old.key_len self.old.leaf }
+        requires key { length low.now.key ≡ self.old.key_len }
+        requires absent { has_pair low.now (pairs_in self.old) ≡ false }
+        requires within { is_within self.old.low self.old.high low.now ≡ true }
+        ensures node { self.new ≡ record self.old { entries = with_entry (record { pair = low.now; child = child }) self.old.entries } }
+        ensures pairs { pairs_in self.new ≡ with_pair low.now (pairs_in self.old) }
+    {
+        self.insert(low, child);
+    }
+
+    fn insert(&mut self, pair: &Pair, child: u64)
+        requires fits { length self.old.entries < capacity_of self.old.key_len self.old.leaf }
+        requires key { length pair.now.key ≡ self.old.key_len }
+        requires absent { has_pair pair.now (pairs_in self.old) ≡ false }
+        requires within { is_within self.old.low self.old.high pair.now ≡ true }
+        ensures node { let page = (if self.old.leaf then 0 else child) in
+            self.new ≡ record self.old { entries = with_entry (record { pair = pair.now; child = page }) self.old.entries } }
+        ensures pairs { pairs_in self.new ≡ with_pair pair.now (pairs_in self.old) }
+    {
+        let width = width_of(self.key_len, self.leaf);
+        let cells = self.cells.as_slice();
+        let place = count_before(cells, self.count, width, self.key_len, pair, false);
+        let end = self.count * width;
+        insert_entry(
+            self.cells.as_mut_slice(),
+            place * width,
+            end,
+            self.leaf,
+            pair,
+            child,
+        );
+        self.count += 1;
+    }
+
+    /// Takes a pair out. The answer is false where it is not there, and then nothing changes.
+    pub fn take(&mut self, pair: &Pair) -> bool
+        ensures found { result ≡ has_pair pair.now (pairs_in self.old) }
+        ensures node { self.new ≡ record self.old { entries = filter (has_other_pair pair.now) self.old.entries } }
+    {
+        let width = width_of(self.key_len, self.leaf);
+        let cells = self.cells.as_slice();
+        let place = count_before(cells, self.count, width, self.key_len, pair, false);
+        let end = self.count * width;
+        if !is_cell_of(
+            self.cells.as_slice(),
+            place,
+            self.count,
+            width,
+            self.key_len,
+            pair,
+        ) {
+            return false;
+        }
+        remove_cell(self.cells.as_mut_slice(), place * width, end, width);
+        self.count -= 1;
+        true
+    }
+
+    /// Makes another node the one to the right of this: from the middle pair on, up to the bound and
+    /// the right link of this one. What the other was is gone.
+    pub fn upper_half(&self, into: &mut Node)
+        requires { 2 ≤ length self.now.entries }
+        ensures node { into.new ≡ upper_half self.now }
+        ensures joined { take (middle_of self.now) self.now.entries ++ into.new.entries ≡ self.now.entries }
+    {
+        let width = width_of(self.key_len, self.leaf);
+        let middle = self.count / 2;
+        let start = middle * width;
+        let end = self.count * width;
+        into.file = self.file;
+        into.index = self.index;
+        into.leaf = self.leaf;
+        into.key_len = self.key_len;
+        into.low = Some(Edge::read(self.cells.as_slice(), start, self.key_len));
+        into.high = self.high;
+        into.right = self.right;
+        into.count = self.count - middle;
+        copy_cells(self.cells.as_slice(), start, end, into.cells.as_mut_slice());
+    }
+
+    /// Cuts the node before its middle pair, and links it to the node to the right.
+    pub fn cut(&mut self, right: u64)
+        requires { 2 ≤ length self.old.entries }
+        ensures node { self.new ≡ lower_half right self.old }
+        ensures joined { self.new.entries ++ drop (middle_of self.old) self.old.entries ≡ self.old.entries }
+    {
+        let width = width_of(self.key_len, self.leaf);
+        let middle = self.count / 2;
+        self.high = Some(Edge::read(self.cells.as_slice(), middle * width, self.key_len));
+        self.right = right;
+        self.count = middle;
+    }
+
+    /// Where the walk to a target goes on from this node.
+    pub fn next_place(&self, target: &Target) -> Place
+        ensures { result ≡ next_place self.now target.now }
+    {
+        if self.is_past(target) {
+            return Place::Right(self.right);
+        }
+        if self.leaf {
+            return self.here(self.count_ahead(target, false));
+        }
+        let reached = self.count_ahead(target, true);
+        self.below(reached.saturating_sub(1))
+    }
+
+    /// Whether a target is at or above the high bound.
+    fn is_past(&self, target: &Target) -> bool
+        ensures { result ≡ is_past self.now.high target.now }
+    {
+        let Some(high) = self.high else {
+            return false;
+        };
+        match target {
+            Target::First => false,
+            Target::Last => true,
+            Target::At(pair) => !high.cmp_pair(self.key_len, pair).is_gt(),
+            Target::Before(pair) => high.cmp_pair(self.key_len, pair).is_lt(),
+        }
+    }
+
+    /// How many pairs are below a target, or at it where that counts.
+    fn count_ahead(&self, target: &Target, or_at: bool) -> usize
+        ensures { result ≡ prefix_len (is_ahead or_at target.now) (pairs_in self.now) }
+    {
+        match target {
+            Target::First => 0,
+            Target::Last => self.count(),
+            Target::At(pair) => self.count_before(pair, or_at),
+            Target::Before(pair) => self.count_before(pair, false),
+        }
+    }
+
+    /// How many pairs are below another, or at it where that counts.
+    fn count_before(&self, pair: &Pair, or_at: bool) -> usize
+        ensures { result ≡ prefix_len (is_before or_at pair.now) (pairs_in self.now) }
+    {
+        let width = width_of(self.key_len, self.leaf);
+        count_before(
+            self.cells.as_slice(),
+            self.count,
+            width,
+            self.key_len,
+            pair,
+            or_at,
+        )
+    }
+
+    /// In a leaf at the pair of a place, or behind the last pair.
+    fn here(&self, place: usize) -> Place
+        ensures { result ≡ here (pairs_in self.now) place }
+    {
+        if place < self.count {
+            Place::Here(place)
+        } else {
+            Place::End
+        }
+    }
+
+    /// The page below of the entry at a place of an inner node.
+    fn below(&self, place: usize) -> Place
+        requires { self.now.leaf ≡ false }
+        ensures { result ≡ down (slice_get self.now.entries place) }
+    {
+        if place >= self.count {
+            return Place::End;
+        }
+        let width = width_of(self.key_len, self.leaf);
+        let behind = place * width + self.key_len + 8;
+        Place::Down(page_at(self.cells.as_slice(), behind))
+    }
+}
+
+/// Whether the cell of a place is there and has a pair.
+fn is_cell_of(
+    cells: &[u8],
+    place: usize,
+    count: usize,
+    width: usize,
+    key_len: usize,
+    pair: &Pair,
+) -> bool
+    requires width { key_len + 8 ≤ width }
+    requires cells { count * width ≤ length cells.now }
+    ensures pair { result ≡ option_map_or (λ cell. is_eq (pair_cmp (pair_at key_len cell) pair.now)) (slice_get (cells_of width count cells.now) place) false }
+    ensures within { result ≡ true → place < count }
+{
+    place < count && cmp_at(cells, place * width, key_len, pair).is_eq()
+}
+
+/// How many entries a node has room for.
+fn capacity_of(key_len: usize, leaf: bool) -> usize
+    requires { key_len ≤ 128 }
+    ensures { result ≡ capacity_of key_len leaf }
+{
+    (BODY - 2 * (9 + key_len)) / width_of(key_len, leaf)
+}

@@ -1,0 +1,4 @@
+pub mod Finding
+pub mod OtherKeys
+pub mod PairLists
+pub mod RowPairs

@@ -1,0 +1,10 @@
+pub mod Rows
+pub mod Packing
+pub mod Decode
+pub mod Places
+pub mod Steps
+pub mod Made
+pub mod Cuts
+pub mod Edits
+pub mod Grammar
+pub mod Fewer

@@ -1,0 +1,27 @@
+use Rattle.std.proofs.Common.{◌≡◌, ℕ, ◌+◌, ◌*◌, ◌&&◌, Bool, true, false, eqb, ltb, List, length, ap, sym, ◌∙◌, subst, arith}
+use Rattle.ct_definitions.specs.declared.store.Row.{Row}
+use Rattle.ct_definitions.specs.Changes.{without_row}
+use Rattle.ct_page.specs.Fields.{u16_at}
+use Rattle.ct_slots.specs.Pages.{RecordPage, rows_on, shown_on, with_rows, rows_use}
+use Rattle.ct_slots.specs.Checks.{IsPlace, AllFrom}
+use Rattle.ct_slots.proofs.Places.{HasPlace, absent, present, without_present, without_absent, place_left, shown_set}
+use Rattle.ct_slots.proofs.edit.clear.Goals as goal
+
+pub returns-then-is_at-clause-shown : goal.returns-then-is_at-clause-shown
+returns-then-is_at-clause-shown c =
+    let page = c.args.page.now in
+    let num = c.args.num in
+    let place = c.place_of-place.result in
+    let is_place = c.place_of-place.ensures in
+    let test : (ltb place (length (rows_on page)) && eqb (u16_at (128 + 8 * place) page) num) ≡ true = cc in
+    c.take_out.ensures.shown ∙ ap (λ (r : List Row). with_rows r (shown_on page)) (sym (without_present page num place is_place (present page num place test)))
+
+pub returns-else-is_at-clause-shown : goal.returns-else-is_at-clause-shown
+returns-else-is_at-clause-shown c =
+    let page = c.args.page.now in
+    let num = c.args.num in
+    let place = c.place_of-place.result in
+    let is_place = c.place_of-place.ensures in
+    let test : (ltb place (length (rows_on page)) && eqb (u16_at (128 + 8 * place) page) num) ≡ false = cc in
+    let none = absent page num place c.requires is_place test in
+    ap (λ (r : List Row). with_rows r (shown_on page)) (sym (without_absent (rows_on page) num place is_place none))
