@@ -8,8 +8,6 @@ mod create;
 mod ended;
 mod exec;
 mod input;
-#[cfg(test)]
-mod rows;
 mod run;
 mod session;
 #[cfg(test)]

@@ -34,18 +34,6 @@ fn run(
     input: &mut MemSource,
     out: &mut MemSink,
 ) -> Result<(Cause, Store), NoMemory> {
-    let (cause, _front, store) = run_to_front(alloc, line, store, input, out)?;
-    Ok((cause, store))
-}
-
-// the same, with the number of the last transaction
-fn run_to_front(
-    alloc: Global,
-    line: &str,
-    store: Store,
-    input: &mut MemSource,
-    out: &mut MemSink,
-) -> Result<(Cause, u64, Store), NoMemory> {
     let mut words = Vec::new(alloc);
     for word in line.split(' ') {
         words.push(String::from_str(alloc, word)?)?;
@@ -56,9 +44,9 @@ fn run_to_front(
         cause,
         pages,
         log,
-        front,
+        front: _,
     } = run_tool(alloc, &words, pages, log, input, out);
-    Ok((cause, front, Store { pages, log }))
+    Ok((cause, Store { pages, log }))
 }
 
 // devices that hold nothing
@@ -114,27 +102,6 @@ fn exec_in_pieces(alloc: Global, most: usize) -> Result<(Cause, MemSink), NoMemo
 }
 
 #[test]
-fn a_store_is_made(rt: HostRuntime) -> Result<(), Fail> {
-    let (cause, store, out) = run_on(rt.alloc(), "create shop", empty(rt.alloc()), b"")?;
-    assert_eq!(rt; cause, Cause::Done);
-    assert_eq!(rt; out.bytes(), b"OK 0\n".as_slice());
-    assert_eq!(rt; store.pages.bytes().len(), 4096);
-    Ok(())
-}
-
-#[test]
-fn a_session_over_no_lines_writes_nothing(rt: HostRuntime) -> Result<(), Fail> {
-    let mut input = MemSource::new(rt.alloc(), b"")?;
-    let mut out = MemSink::new(rt.alloc());
-    let store = made(rt.alloc(), b"")?;
-    let (cause, front, _store) = run_to_front(rt.alloc(), "exec", store, &mut input, &mut out)?;
-    assert_eq!(rt; cause, Cause::Done);
-    assert_eq!(rt; front, 0);
-    assert_eq!(rt; out.bytes(), b"".as_slice());
-    Ok(())
-}
-
-#[test]
 fn a_session_writes_its_replies_and_its_log(rt: HostRuntime) -> Result<(), Fail> {
     let (cause, store, out) = run_on(rt.alloc(), "exec", made(rt.alloc(), b"")?, LINES)?;
     assert_eq!(rt; cause, Cause::Done);
@@ -143,45 +110,10 @@ fn a_session_writes_its_replies_and_its_log(rt: HostRuntime) -> Result<(), Fail>
     Ok(())
 }
 
-#[test]
-fn a_store_is_counted(rt: HostRuntime) -> Result<(), Fail> {
-    let (cause, told) = checked(rt.alloc(), made(rt.alloc(), LINES)?)?;
-    assert_eq!(rt; cause, Cause::Done);
-    assert_eq!(rt; told.bytes(), b"OK 2 1 1\n".as_slice());
-    Ok(())
-}
-
-#[test]
-fn a_store_is_made_once(rt: HostRuntime) -> Result<(), Fail> {
-    let store = made(rt.alloc(), b"")?;
-    let (cause, _store, out) = run_on(rt.alloc(), "create shop", store, b"")?;
-    assert_eq!(rt; cause, Cause::NotEmpty);
-    assert_eq!(rt; out.bytes(), b"".as_slice());
-    Ok(())
-}
-
-#[test]
-fn empty_devices_hold_no_store(rt: HostRuntime) -> Result<(), Fail> {
-    let (cause, _store, out) = run_on(rt.alloc(), "exec", empty(rt.alloc()), LINES)?;
-    assert_eq!(rt; cause, Cause::Undone);
-    assert_eq!(rt; out.bytes(), b"".as_slice());
-    Ok(())
-}
-
 // what a session on a new store writes
 fn answered(alloc: Global, lines: &[u8]) -> Result<(Cause, MemSink), NoMemory> {
     let (cause, _store, out) = run_on(alloc, "exec", made(alloc, b"")?, lines)?;
     Ok((cause, out))
-}
-
-#[test]
-fn lines_outside_the_grammar_have_their_place(rt: HostRuntime) -> Result<(), Fail> {
-    let lines = b"HELLO\nGET part\nADD part a\\0\nFIRST part id extra\n\n";
-    let (cause, out) = answered(rt.alloc(), lines)?;
-    assert_eq!(rt; cause, Cause::Done);
-    let wanted = b"ERR BADLINE 0\nERR BADLINE 8\nERR BADLINE 10\nERR BADLINE 14\nERR BADLINE 0\n";
-    assert_eq!(rt; out.bytes(), wanted.as_slice());
-    Ok(())
 }
 
 #[test]
@@ -352,24 +284,6 @@ fn each_call_of_the_output_fails_in_turn(rt: HostRuntime) -> Result<(), Fail> {
         let (cause, _store) = run(rt.alloc(), "exec", store, &mut input, &mut out)?;
         assert_eq!(rt; cause, Cause::Sink, "{put}");
         assert_eq!(rt; out.bytes(), &REPLIES[..put], "{put}");
-    }
-    Ok(())
-}
-
-#[test]
-fn other_words_do_nothing(rt: HostRuntime) -> Result<(), Fail> {
-    let rows = [
-        ("", Cause::Usage),
-        ("Exec", Cause::Usage),
-        ("exec now", Cause::Usage),
-        ("create", Cause::Usage),
-        ("ctrdmp dump", Cause::Unbuilt),
-    ];
-    for (words, wanted) in rows {
-        let (cause, store, out) = run_on(rt.alloc(), words, empty(rt.alloc()), LINES)?;
-        assert_eq!(rt; cause, wanted, "{words}");
-        assert_eq!(rt; store.log.bytes(), b"".as_slice(), "{words}");
-        assert_eq!(rt; out.bytes(), b"".as_slice(), "{words}");
     }
     Ok(())
 }
