@@ -1,11 +1,13 @@
 -- Bytes moved within a page, as lists of its parts.
-use Rattle.std.proofs.Common.{◌≡◌, ℕ, zero, suc, ◌+◌, ◌-◌, ◌*◌, ◌<◌, ◌≤◌, List, [], ◌∷◌, ◌++◌, length, take, drop, replicate, refl, sym, ap, ◌∙◌, arith, append_assoc}
+use Rattle.std.proofs.Common.{◌≡◌, ℕ, ◌+◌, ◌-◌, ◌*◌, ◌≤◌, List, ◌∷◌, ◌++◌, length, take, drop, replicate, refl, sym, ap, ◌∙◌, arith, append_assoc}
 use Rattle.std.specs.Int.{w16, to_le_bytes}
-use Rattle.std.proofs.lemmas.List.{length-append, length-take-le, take_at, take-take, take-append-le, drop_at, drop-drop}
+use Rattle.std.proofs.lemmas.List.{length-append, length-drop, length-take-le, length-replicate, replicate-append-replicate, take_at, take-take, take-append-le, drop_at, drop-drop}
 use Rattle.ct_page.specs.declared.header.Header.{Header}
-use Rattle.ct_page.specs.declared.kind.PageKind.{PageKind}
 use Rattle.ct_page.specs.Fields.{with_bytes, with_u16}
+use borrow.Rule.Slice.PartMut.{put_mid}
+use Rattle.ct_page.proofs.Numbers.{with_bytes-put_mid}
 use Rattle.ct_page.specs.Headers.{header_bytes}
+use Rattle.ct_slots.specs.Pages.{entry_bytes}
 use Rattle.ct_slots.specs.Checks.{packed}
 
 -- behind a front and one part
@@ -83,3 +85,49 @@ entry_over at stop entry page moved order within size is =
     let behind : drop (at + length entry) moved ≡ part ++ rest = ap (λ n. drop (at + n) moved) size ∙ ap (drop (at + 8)) grouped ∙ drop_at kept (part ++ rest) (at + 8) long in
     let end : rest ≡ drop (stop + 8) page = ap (λ n. drop n page) (omega arith) in
     ap (λ (l : List ℕ). l ++ entry ++ drop (at + length entry) moved) front ∙ ap (λ (l : List ℕ). take at page ++ entry ++ l) behind ∙ sym (append_assoc (take at page ++ entry) part rest) ∙ ap (λ (l : List ℕ). take at page ++ entry ++ part ++ l) end
+
+-- an image in the place of another: the space in front of the moved images, `gap` zeros behind q, is `rest` zeros afterwards
+pub exchanged_image : (q i old j image page : List ℕ) (gap low end len m : ℕ) → page ≡ (q ++ replicate gap 0) ++ (i ++ (old ++ j)) → length (q ++ replicate gap 0) ≡ low → length old ≡ len → length image ≡ m → low + length i + len ≡ end → m ≤ gap + len
+    → take (low - (m - len)) page ++ replicate (len - m) 0 ++ take (end - len - low) (drop low page) ++ image ++ drop end page ≡ (q ++ replicate (gap + len - m) 0) ++ (i ++ (image ++ j))
+exchanged_image q i old j image page gap low end len m is here size new there room =
+    let z = λ (n : ℕ). replicate {A = ℕ} n 0 in
+    let kept = gap - (m - len) in
+    let split : z gap ≡ z kept ++ z (m - len) = ap z (omega arith) ∙ sym (replicate-append-replicate {A = ℕ} kept (m - len) 0) in
+    let regrouped : page ≡ (q ++ z kept) ++ (z (m - len) ++ (i ++ (old ++ j))) = is ∙ ap (λ (l : List ℕ). (q ++ l) ++ (i ++ (old ++ j))) split ∙ simp append_assoc refl in
+    let long : length (q ++ z kept) ≡ low - (m - len) = omega (arith, length-append q (z gap), length-append q (z kept), length-replicate {A = ℕ} gap 0, length-replicate {A = ℕ} kept 0) in
+    let front : take (low - (m - len)) page ≡ q ++ z kept = ap (take (low - (m - len))) regrouped ∙ take_at (q ++ z kept) (z (m - len) ++ (i ++ (old ++ j))) (low - (m - len)) long in
+    let behind : drop low page ≡ i ++ (old ++ j) = ap (drop low) is ∙ drop_at (q ++ z gap) (i ++ (old ++ j)) low here in
+    let middle : take (end - len - low) (drop low page) ≡ i = ap (take (end - len - low)) behind ∙ take_at i (old ++ j) (end - len - low) (omega arith) in
+    let last : drop end page ≡ j = ap (λ n. drop n page) (sym there) ∙ behind_two ((q ++ z gap) ++ i) old j page (low + length i) len (is ∙ sym (append_assoc (q ++ z gap) i (old ++ j))) (omega (arith, length-append (q ++ z gap) i)) size in
+    let space : z kept ++ z (len - m) ≡ z (gap + len - m) = replicate-append-replicate {A = ℕ} kept (len - m) 0 ∙ ap z (omega arith) in
+    ap (λ (l : List ℕ). l ++ z (len - m) ++ take (end - len - low) (drop low page) ++ image ++ drop end page) front
+    ∙ ap (λ (l : List ℕ). (q ++ z kept) ++ z (len - m) ++ l ++ image ++ drop end page) middle
+    ∙ ap (λ (l : List ℕ). (q ++ z kept) ++ z (len - m) ++ i ++ image ++ l) last
+    ∙ append_assoc (((q ++ z kept) ++ z (len - m)) ++ i) image j
+    ∙ append_assoc ((q ++ z kept) ++ z (len - m)) i (image ++ j)
+    ∙ ap (λ (l : List ℕ). l ++ (i ++ (image ++ j))) (append_assoc q (z kept) (z (len - m)) ∙ ap (λ (l : List ℕ). q ++ l) space)
+
+-- a length written into an entry behind a front
+pub relabelled : (f rest page : List ℕ) (at num offset len new : ℕ) → page ≡ f ++ (entry_bytes num offset len ++ rest) → length f ≡ at → with_u16 (at + 4) new page ≡ f ++ (entry_bytes num offset new ++ rest)
+unfolding with_u16
+relabelled f rest page at num offset len new is here =
+    let entry = entry_bytes num offset len in
+    let head = to_le_bytes w16 num ++ to_le_bytes w16 offset in
+    let tail = 0 ∷ 0 ∷ rest in
+    let cut : page ≡ (f ++ head) ++ (to_le_bytes w16 len ++ tail) = is ∙ simp append_assoc refl in
+    let long : length (f ++ head) ≡ at + 4 = length-append f head ∙ ap (λ n. n + 4) here in
+    let front : take (at + 4) page ≡ f ++ head = ap (take (at + 4)) cut ∙ take_at (f ++ head) (to_le_bytes w16 len ++ tail) (at + 4) long in
+    let behind : drop (at + 4 + 2) page ≡ tail = behind_two (f ++ head) (to_le_bytes w16 len) tail page (at + 4) 2 cut long refl in
+    ap (λ (l : List ℕ). l ++ to_le_bytes w16 new ++ drop (at + 4 + 2) page) front ∙ ap (λ (l : List ℕ). (f ++ head) ++ to_le_bytes w16 new ++ l) behind ∙ simp append_assoc refl
+
+-- an image written over the end of what was moved
+pub over_end : (kept page p new image : List ℕ) (low len end : ℕ) → p ≡ kept ++ drop (low + len - length image + (end - len - low)) page → new ≡ image → length page ≡ 4096 → length p ≡ 4096 → low + len ≤ end → end ≤ 4096 → length image ≤ low + len
+    → put_mid (end - length image) (end - (end - length image)) p new ≡ kept ++ image ++ drop end page
+over_end kept page p new image low len end is same before long order within room =
+    let m = length image in
+    let at = end - m in
+    let p_is : p ≡ kept ++ drop at page = is ∙ ap (λ n. kept ++ drop n page) (omega arith) in
+    let here : length kept ≡ at = omega (arith, ap length p_is, length-append kept (drop at page), length-drop at page) in
+    let front : take at p ≡ kept = ap (take at) p_is ∙ take_at kept (drop at page) at here in
+    let last : drop (at + m) p ≡ drop end page = sym (drop-drop m at p) ∙ ap (λ (l : List ℕ). drop m (drop at l)) p_is ∙ ap (drop m) (drop_at kept (drop at page) at here) ∙ drop-drop m at page ∙ ap (λ n. drop n page) (omega arith) in
+    ap (put_mid at (end - at) p) same ∙ with_bytes-put_mid at (end - at) image p (omega arith) ∙ ap (λ (l : List ℕ). l ++ image ++ drop (at + m) p) front ∙ ap (λ (l : List ℕ). kept ++ image ++ l) last

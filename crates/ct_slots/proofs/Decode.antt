@@ -1,16 +1,15 @@
 -- What the page of some records tells is these records.
 use Rattle.std.proofs.Common.{◌≡◌, ℕ, zero, suc, ◌+◌, ◌-◌, ◌*◌, ◌^◌, ◌<◌, ◌≤◌, Bool, true, ◌&&◌, List, [], ◌∷◌, ◌++◌, length, take, drop, get_or, Some, replicate, refl, sym, ap, ◌∙◌, arith, IsTrue, append_assoc}
-use Rattle.std.specs.Int.{w16, from_le_bytes, to_le_bytes}
+use Rattle.std.specs.Int.{w16, from_le_bytes}
 use Rattle.std.proofs.lemmas.Bool.Decides.{nat_tests}
 use Rattle.std.proofs.lemmas.List.{length-append, length-replicate, append-nil, take_at, drop_at, drop-drop}
 use Rattle.std.proofs.lemmas.Nat.{from_le_bytes-to_le_bytes_2}
 use Rattle.ct_definitions.specs.declared.store.Row.{Row}
-use Rattle.ct_page.specs.declared.header.Header.{Header}
 use Rattle.ct_page.specs.Fields.{u16_at, u64_at}
 use Rattle.ct_page.specs.Headers.{header_bytes, header_of, has_fields}
 use Rattle.ct_page.proofs.HeaderLemmas.{HasFields, fields_are, written_is_read}
-use Rattle.ct_slots.specs.Pages.{RecordPage, Fits, images_len, rows_use, rise_from, entry_bytes, entries, images, record_header, page_of, row_on, rows_from, rows_on, shown_on, IsRecordPage}
-use Rattle.ct_slots.proofs.Rows.{Rises, rises, rows_use-is, images_len-cons}
+use Rattle.ct_slots.specs.Pages.{RecordPage, Fits, images_len, rows_use, rise_from, entry_bytes, entries, images, record_header, page_of, rows_from, rows_on, shown_on, IsRecordPage}
+use Rattle.ct_slots.proofs.Rows.{rises, rows_use-is, images_len-cons}
 use Rattle.ct_slots.proofs.Packing.{length-entries, length-images}
 
 -- the numbers of an entry that stands at a place

@@ -1,27 +1,25 @@
 -- A page whose entries are in order is a record page, and each record page has such entries.
-use Rattle.std.proofs.Common.{◌≡◌, ◌≢◌, ℕ, zero, suc, ◌+◌, ◌-◌, ◌*◌, ◌^◌, ◌<◌, ◌≤◌, Bool, true, false, ◌&&◌, cond, eqb, ltb, leb, List, [], ◌∷◌, ◌++◌, length, take, drop, get_or, min, Option, Some, None, replicate, refl, sym, ap, ◌∙◌, subst, arith, IsTrue, append_assoc}
-use Rattle.std.specs.Int.{w16, w64, from_le_bytes, to_le_bytes}
+use Rattle.std.proofs.Common.{◌≡◌, ℕ, zero, suc, ◌+◌, ◌-◌, ◌*◌, ◌^◌, ◌<◌, ◌≤◌, Bool, true, false, ◌&&◌, cond, eqb, List, [], ◌∷◌, ◌++◌, length, take, drop, get_or, Option, Some, None, replicate, refl, sym, ap, ◌∙◌, arith, IsTrue, append_assoc}
+use Rattle.std.specs.Int.{w16, to_le_bytes}
 use Rattle.std.specs.Bool.{OnTrue, OnFalse}
 use Rattle.std.proofs.lemmas.Bool.{eqb-true}
 use Rattle.std.proofs.lemmas.Bool.Decides.{nat_tests}
-use Rattle.std.proofs.lemmas.List.{length-append, length-take, length-take-le, length-drop, length-replicate, take_at, drop_at, take_all, drop-drop, take-append-drop}
+use Rattle.std.proofs.lemmas.List.{length-append, length-take, length-drop, length-replicate, take_at, drop_at, take_all, drop-drop, take-append-drop}
 use Rattle.std.proofs.Math.Seq.{take-add}
 use Rattle.ct_definitions.specs.declared.store.Row.{Row}
-use Rattle.ct_page.specs.declared.header.Header.{Header}
-use Rattle.ct_page.specs.declared.kind.PageKind.TheVariants.{Records}
 use Rattle.ct_page.specs.Fields.{u16_at, u64_at, are_zero}
 use Rattle.ct_page.specs.Kinds.{kind_of}
-use Rattle.ct_page.specs.Headers.{IsPage, header_bytes, header_of, has_header}
+use Rattle.ct_page.specs.Headers.{header_bytes, header_of, has_header}
 use Rattle.ct_page.proofs.Numbers.{bytes_of_part, bytes_of_u16}
 use Rattle.ct_page.proofs.Zeros.{zeros_are, are_zero-replicate}
 use Rattle.ct_page.proofs.HeaderLemmas.{header_is, read_is_written, written_is_in_grammar}
 use Rattle.ct_slots.specs.Pages.{RecordPage, Fits, images_len, rows_use, rise_from, entry_bytes, entries, images, record_header, page_of, row_on, rows_from, rows_on, shown_on, IsRecordPage}
 use Rattle.ct_slots.specs.Checks.{is_entry, images_begin, has_record_header}
-use Rattle.ct_slots.proofs.Rows.{Rises, rises, rise, rows_use-is, images_len-cons}
-use Rattle.ct_slots.proofs.Packing.{length-entries, length-images}
-use Rattle.ct_slots.proofs.Decode.{Reads, reads, body_of, page_of-parts, length-page_of, header_on, entries_on}
+use Rattle.ct_slots.proofs.Rows.{rises, rise, rows_use-is, images_len-cons}
+use Rattle.ct_slots.proofs.Packing.{length-entries}
+use Rattle.ct_slots.proofs.Decode.{reads, body_of, page_of-parts, header_on, entries_on}
 use Rattle.ct_slots.proofs.Places.{length-rows_from}
-use Rattle.ct_slots.proofs.Steps.{InOrder, in_order, is_in_order}
+use Rattle.ct_slots.proofs.Steps.{in_order, is_in_order}
 
 -- what entries in order say
 pub record Sound (n at low end start : ℕ) (page : List ℕ) : Type 0 where

@@ -1,5 +1,5 @@
 -- The page of no records.
-use Rattle.std.proofs.Common.{◌≡◌, ℕ, zero, ◌-◌, ◌^◌, ◌<◌, ◌≤◌, List, [], ◌++◌, drop, replicate, refl, ap, sym, ◌∙◌, arith}
+use Rattle.std.proofs.Common.{◌≡◌, ℕ, ◌-◌, ◌^◌, ◌<◌, List, [], ◌++◌, drop, replicate, refl, ap, sym, ◌∙◌, arith}
 use Rattle.std.proofs.lemmas.List.{drop-replicate, append-nil}
 use Rattle.ct_page.specs.Headers.{header_bytes}
 use Rattle.ct_slots.specs.Pages.{RecordPage, Fits, entries, images, record_header, page_of}

@@ -1,17 +1,16 @@
 -- Where numbers, entries and images stand on a record page.
-use Rattle.std.proofs.Common.{◌≡◌, ◌≢◌, ℕ, zero, suc, ◌+◌, ◌-◌, ◌*◌, ◌^◌, ◌<◌, ◌≤◌, Bool, true, false, ◌&&◌, cond, eqb, ltb, List, [], ◌∷◌, ◌++◌, length, take, drop, get_or, Option, Some, None, replicate, refl, sym, ap, ◌∙◌, subst, arith, append_assoc}
-use Rattle.std.specs.Prelude.{slice_get, option_map}
+use Rattle.std.proofs.Common.{◌≡◌, ◌≢◌, ℕ, zero, suc, ◌+◌, ◌-◌, ◌*◌, ◌<◌, ◌≤◌, Bool, true, false, ◌&&◌, eqb, ltb, List, [], ◌∷◌, ◌++◌, length, take, drop, Some, None, replicate, refl, sym, ap, ◌∙◌, arith}
+use Rattle.std.specs.Prelude.{slice_get}
 use Rattle.std.proofs.lemmas.Bool.{ltb-true, lt-ltb, eqb-true, eqb-false}
-use Rattle.std.proofs.lemmas.Bool.Decides.{nat_tests}
-use Rattle.std.proofs.lemmas.List.{length-append, length-take, length-take-le, length-drop, take-append-drop, take_at, drop_at, take_all, drop_all}
+use Rattle.std.proofs.lemmas.List.{length-take-le, take-append-drop, drop_at, take_all}
 use Rattle.ct_definitions.specs.declared.store.Row.{Row}
 use Rattle.ct_definitions.specs.Room.{image_at}
 use Rattle.ct_definitions.specs.Changes.{with_row, without_row}
-use Rattle.ct_page.specs.Fields.{u16_at, u64_at}
-use Rattle.ct_slots.specs.Pages.{RecordPage, Fits, with_rows, with_slot, images_len, rows_use, rise_from, entry_bytes, entries, images, page_of, row_on, rows_from, rows_on, shown_on, IsRecordPage}
+use Rattle.ct_page.specs.Fields.{u16_at}
+use Rattle.ct_slots.specs.Pages.{RecordPage, with_rows, with_slot, images_len, rows_use, rise_from, entries, images, row_on, rows_from, rows_on, shown_on, IsRecordPage}
 use Rattle.ct_slots.specs.Checks.{AllBelow, AllFrom, IsPlace}
-use Rattle.ct_slots.proofs.Rows.{Rises, rises, rows_use-is, images_len-cons, all_from, from_lower, rise_drop, images_len-append, image_at-between, image_at-at, with_row-between, without_row-between, without_row-at}
-use Rattle.ct_slots.proofs.Decode.{Reads, reads, body_of, entries_on}
+use Rattle.ct_slots.proofs.Rows.{rises, rows_use-is, images_len-cons, all_from, from_lower, rise_drop, images_len-append, image_at-between, image_at-at, with_row-between, without_row-between, without_row-at}
+use Rattle.ct_slots.proofs.Decode.{reads, body_of, entries_on}
 
 -- as many records as entries
 pub length-rows_from : (n at : ℕ) (page : List ℕ) → length (rows_from at n page) ≡ n
@@ -266,21 +265,9 @@ pub record HasPlace (num place : ℕ) (rows : List Row) : Type 0 where
   pub is_place : IsPlace num place rows
   pub above : AllFrom (num + 1) (drop place rows)
 
-place_between : (num place : ℕ) (a b : List Row) → length a ≡ place → AllBelow num a → AllFrom (num + 1) b → HasPlace num place (a ++ b)
-place_between num place a b size below above =
-    let front : take place (a ++ b) ≡ a = take_at a b place size in
-    let behind : drop place (a ++ b) ≡ b = drop_at a b place size in
-    record {
-      is_place = record {
-        within = omega (arith, length-append a b);
-        below = (let P : List Row → Type 0 = λ r. AllBelow num r in subst P (sym front) below);
-        from = (let P : List Row → Type 0 = λ r. AllFrom num r in subst P (sym behind) (from_lower (num + 1) num b (omega arith) above));
-      };
-      above = (let P : List Row → Type 0 = λ r. AllFrom (num + 1) r in subst P (sym behind) above);
-    }
-
-pub place_left : (page : List ℕ) (num place : ℕ) → IsRecordPage page → IsPlace num place (rows_on page) → IsThere page num place → HasPlace num place (without_row num (rows_on page))
-place_left page num place is_page is_place there =
+-- the records behind the one that was found have greater numbers
+above_there : (page : List ℕ) (num place : ℕ) → IsRecordPage page → IsPlace num place (rows_on page) → IsThere page num place → AllFrom (num + 1) (drop (suc place) (rows_on page))
+above_there page num place is_page is_place there =
     let rows = rows_on page in
     let row = row_on (128 + 8 * place) page in
     let a = take place rows in
@@ -288,9 +275,7 @@ place_left page num place is_page is_place there =
     let up : rise_from 0 (a ++ row ∷ b) ≡ true = ap (rise_from 0) (sym there.split) ∙ is_page.fits.rising in
     let up_behind : rise_from 0 (row ∷ b) ≡ true = ap (rise_from 0) (sym (drop_at a (row ∷ b) place (length-take-le place rows is_place.within))) ∙ rise_drop place 0 (a ++ row ∷ b) up in
     let r = rises 0 row b up_behind in
-    let above : AllFrom (num + 1) b = from_lower (row.num + 1) (num + 1) b (omega (arith, there.num)) (all_from (row.num + 1) b r.rest) in
-    let P : List Row → Type 0 = λ l. HasPlace num place l in
-    subst P (sym (without_present page num place is_place there)) (place_between num place a b (length-take-le place rows is_place.within) is_place.below above)
+    from_lower (row.num + 1) (num + 1) b (omega (arith, there.num)) (all_from (row.num + 1) b r.rest)
 
 -- what is shown with one record more is what is shown with the image under its number
 pub shown_set : (shown left : RecordPage) (num place : ℕ) (image : List ℕ) → left ≡ with_rows (without_row num shown.rows) shown → HasPlace num place left.rows → with_rows (take place left.rows ++ record { num = num; image = image } ∷ drop place left.rows) left ≡ with_rows (with_slot num image shown.rows) shown
@@ -298,3 +283,13 @@ shown_set shown left num place image is has =
     let new : Row = record { num = num; image = image } in
     let more : with_row new left.rows ≡ take place left.rows ++ new ∷ drop place left.rows = ap (with_row new) (sym (take-append-drop place left.rows)) ∙ with_row-between (take place left.rows) new (drop place left.rows) has.is_place.below has.above in
     ap (λ (r : List Row). with_rows r left) (sym more) ∙ ap (λ (s : RecordPage). with_rows (with_row new s.rows) s) is
+
+-- what is shown with another image under a number that is there
+pub shown_replaced : (page : List ℕ) (num place : ℕ) (image : List ℕ) → IsRecordPage page → IsPlace num place (rows_on page) → IsThere page num place → with_rows (with_slot num image (rows_on page)) (shown_on page) ≡ with_rows (take place (rows_on page) ++ record { num = num; image = image } ∷ drop (suc place) (rows_on page)) (shown_on page)
+shown_replaced page num place image is_page is_place there =
+    let rows = rows_on page in
+    let row = row_on (128 + 8 * place) page in
+    let new : Row = record { num = num; image = image } in
+    let a = take place rows in
+    let b = drop (suc place) rows in
+    ap (λ (r : List Row). with_rows (with_row new r) (shown_on page)) (without_present page num place is_place there) ∙ ap (λ (r : List Row). with_rows r (shown_on page)) (with_row-between a new b is_place.below (above_there page num place is_page is_place there))

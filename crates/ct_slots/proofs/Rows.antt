@@ -1,15 +1,14 @@
 -- Records by rising number: where one stands, with one more and without one.
-use Rattle.std.proofs.Common.{◌≡◌, ℕ, zero, suc, ◌+◌, ◌-◌, ◌*◌, ◌<◌, ◌≤◌, ◌⊎◌, inl, inr, Bool, true, false, cond, ◌&&◌, nat_le, nat_lt, eqb, ltb, leb, List, [], ◌∷◌, ◌++◌, length, take, drop, get_or, Option, Some, None, refl, sym, ap, ◌∙◌, subst, arith, sum_by, zero-add}
-use Rattle.std.specs.Prelude.{slice_get, remove, find, option_map}
-use Rattle.std.proofs.lemmas.Bool.{ltb-true, le-ltb, lt-ltb, eqb-true, eq-eqb, ne_eqb}
+use Rattle.std.proofs.Common.{◌≡◌, ℕ, zero, suc, ◌+◌, ◌*◌, ◌<◌, ◌≤◌, true, false, cond, ◌&&◌, nat_le, nat_lt, eqb, ltb, List, [], ◌∷◌, ◌++◌, length, drop, Some, None, refl, sym, ap, ◌∙◌, arith, zero-add}
+use Rattle.std.specs.Prelude.{option_map}
+use Rattle.std.proofs.lemmas.Bool.{le-ltb, lt-ltb, eq-eqb, ne_eqb}
 use Rattle.std.proofs.lemmas.Bool.Decides.{nat_tests}
-use Rattle.std.proofs.lemmas.List.{length-append, length-take, take-append-drop}
 use Rattle.std.proofs.lemmas.List.Sums.{sum_by-cons}
 use Rattle.ct_definitions.specs.declared.store.Row.{Row}
 use Rattle.ct_definitions.specs.Changes.{with_row, without_row}
 use Rattle.ct_definitions.specs.Room.{row_at, image_at, use_of}
-use Rattle.ct_slots.specs.Pages.{images_len, rows_use, rise_from, with_slot}
-use Rattle.ct_slots.specs.Checks.{AllBelow, AllFrom, IsPlace}
+use Rattle.ct_slots.specs.Pages.{images_len, rows_use, rise_from}
+use Rattle.ct_slots.specs.Checks.{AllBelow, AllFrom}
 
 -- one record and further ones
 pub images_len-cons : (row : Row) (rows : List Row) → images_len (row ∷ rows) ≡ length row.image + images_len rows
@@ -93,6 +92,13 @@ rise_without low [] old b up =
 rise_without low (row ∷ a) old b up =
     let r = rises low row (a ++ old ∷ b) up in
     rise low row (a ++ b) r.from r.below (rise_without (row.num + 1) a old b r.rest)
+
+-- with another record of the same number they rise
+pub rise_same : (low : ℕ) (a : List Row) (old new : Row) (b : List Row) → new.num ≡ old.num → rise_from low (a ++ old ∷ b) ≡ true → rise_from low (a ++ new ∷ b) ≡ true
+rise_same low [] old new b same up = ap (λ n. nat_le low n && nat_lt n 128 && rise_from (n + 1) b) same ∙ up
+rise_same low (row ∷ a) old new b same up =
+    let r = rises low row (a ++ old ∷ b) up in
+    rise low row (a ++ new ∷ b) r.from r.below (rise_same (row.num + 1) a old new b same r.rest)
 
 -- one more record stands between the lesser ones and the greater ones
 pub with_row-between : (a : List Row) (new : Row) (b : List Row) → AllBelow new.num a → AllFrom (new.num + 1) b → with_row new (a ++ b) ≡ a ++ new ∷ b

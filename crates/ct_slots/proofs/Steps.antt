@@ -1,10 +1,10 @@
 -- The steps of the loops.
-use Rattle.std.proofs.Common.{◌≡◌, ℕ, zero, suc, ◌+◌, ◌-◌, ◌*◌, ◌<◌, ◌≤◌, Bool, true, false, cond, List, [], ◌∷◌, ◌++◌, length, take, drop, Option, Some, None, refl, sym, ap, ◌∙◌, arith, append_assoc}
+use Rattle.std.proofs.Common.{◌≡◌, ℕ, suc, ◌+◌, ◌-◌, ◌*◌, ◌<◌, ◌≤◌, true, false, cond, List, ◌++◌, length, take, drop, Some, None, sym, ap, ◌∙◌, arith, append_assoc}
 use Rattle.std.specs.Int.{w16, from_le_bytes, to_le_bytes}
 use Rattle.std.proofs.lemmas.Bool.Decides.{nat_tests}
-use Rattle.std.proofs.lemmas.List.{length-append, length-take, length-drop, drop-drop, take_at, append-nil, take-append-drop}
+use Rattle.std.proofs.lemmas.List.{length-append, length-take, drop-drop, append-nil, take-append-drop}
 use Rattle.std.proofs.Math.Seq.{take-append-add, take-add}
-use Rattle.ct_page.specs.Fields.{u16_at, with_u16, with_bytes}
+use Rattle.ct_page.specs.Fields.{u16_at, with_u16}
 use Rattle.ct_page.proofs.Numbers.{behind-with_bytes}
 use Rattle.ct_slots.specs.Checks.{is_entry, images_begin, packed}
 

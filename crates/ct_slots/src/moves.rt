@@ -29,6 +29,35 @@ pub(crate) fn close_image(page: &mut [u8; PAGE_SIZE], low: usize, end: usize, le
     page[low..low + len].fill(0);
 }
 
+/// Puts an image in the place of the `len` bytes in front of `end`: what stands from `low` to them moves by
+/// the difference, and zeros take the place of what is not used any more.
+pub(crate) fn exchange_image(
+    page: &mut [u8; PAGE_SIZE],
+    low: usize,
+    end: usize,
+    len: usize,
+    image: &[u8],
+)
+    requires order { low + len ≤ end }
+    requires within { end ≤ 4096 }
+    requires room { length image.now ≤ low + len }
+    ensures { page.new ≡ take (low - (length image.now - len)) page.old ++ replicate (len - length image.now) 0 ++ take (end - len - low) (drop low page.old) ++ image.now ++ drop end page.old }
+{
+    slide(page, low, end - len, low + len - image.len());
+    page[end - image.len()..end].copy_from_slice(image);
+}
+
+/// Moves what stands from `low` to `end` to the place `to`, and puts zeros in front of it where it moves up.
+fn slide(page: &mut [u8; PAGE_SIZE], low: usize, end: usize, to: usize)
+    requires order { low ≤ end }
+    requires within { to + (end - low) ≤ 4096 }
+    requires end { end ≤ 4096 }
+    ensures { page.new ≡ take (low - (low - to)) page.old ++ replicate (to - low) 0 ++ take (end - low) (drop low page.old) ++ drop (to + (end - low)) page.old }
+{
+    page.copy_within(low..end, to);
+    page[low..to.max(low)].fill(0);
+}
+
 /// Puts an entry at a place, with offset 0: what stands from there to `end` moves up by an entry.
 pub(crate) fn open_entry(page: &mut [u8; PAGE_SIZE], at: usize, end: usize, num: u16, len: u16)
     requires order { at ≤ end }

@@ -1,4 +1,4 @@
-use Rattle.std.proofs.Common.{◌≡◌, ℕ, ◌+◌, ◌-◌, ◌*◌, true, false, ap, sym, ◌∙◌, arith}
+use Rattle.std.proofs.Common.{◌≡◌, ◌+◌, ◌-◌, ◌*◌, true, false, ap, sym, ◌∙◌, arith}
 use Rattle.ct_page.specs.Fields.{u16_at}
 use Rattle.ct_slots.specs.Checks.{is_entry, images_begin}
 use Rattle.ct_slots.proofs.Steps.{begin_stops, begin_goes, begin_all, entry_offset}

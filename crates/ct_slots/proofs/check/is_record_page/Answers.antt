@@ -1,7 +1,6 @@
-use Rattle.std.proofs.Common.{◌≡◌, ◌≢◌, ℕ, ◌+◌, ◌-◌, ◌*◌, Bool, true, false, leb, ap, sym, ◌∙◌, arith}
+use Rattle.std.proofs.Common.{◌≢◌, ◌+◌, ◌*◌, leb, ap, sym, ◌∙◌, arith}
 use Rattle.ct_page.specs.Fields.{u16_at}
 use Rattle.ct_slots.specs.Pages.{RecordPage, Fits, IsRecordPage, page_of}
-use Rattle.ct_slots.specs.Checks.{images_begin}
 use Rattle.ct_slots.proofs.Places.{length-rows_from}
 use Rattle.ct_slots.proofs.Grammar.{sound_page, complete_header, complete_few, complete_zeros, count_is, start_is, starts_behind, entries_refused, when_true, when_false}
 use Rattle.ct_slots.proofs.check.is_record_page.Goals as goal

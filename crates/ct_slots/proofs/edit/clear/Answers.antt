@@ -1,10 +1,8 @@
-use Rattle.std.proofs.Common.{◌≡◌, ℕ, ◌+◌, ◌*◌, ◌&&◌, Bool, true, false, eqb, ltb, List, length, ap, sym, ◌∙◌, subst, arith}
+use Rattle.std.proofs.Common.{◌≡◌, ◌+◌, ◌*◌, ◌&&◌, true, false, eqb, ltb, List, length, ap, sym, ◌∙◌}
 use Rattle.ct_definitions.specs.declared.store.Row.{Row}
-use Rattle.ct_definitions.specs.Changes.{without_row}
 use Rattle.ct_page.specs.Fields.{u16_at}
-use Rattle.ct_slots.specs.Pages.{RecordPage, rows_on, shown_on, with_rows, rows_use}
-use Rattle.ct_slots.specs.Checks.{IsPlace, AllFrom}
-use Rattle.ct_slots.proofs.Places.{HasPlace, absent, present, without_present, without_absent, place_left, shown_set}
+use Rattle.ct_slots.specs.Pages.{rows_on, shown_on, with_rows}
+use Rattle.ct_slots.proofs.Places.{absent, present, without_present, without_absent}
 use Rattle.ct_slots.proofs.edit.clear.Goals as goal
 
 pub returns-then-is_at-clause-shown : goal.returns-then-is_at-clause-shown

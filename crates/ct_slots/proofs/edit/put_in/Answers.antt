@@ -1,11 +1,11 @@
-use Rattle.std.proofs.Common.{◌≡◌, ℕ, ◌+◌, ◌-◌, ◌*◌, ◌<◌, ◌≤◌, List, ◌∷◌, ◌++◌, length, take, drop, refl, ap, sym, ◌∙◌, arith}
+use Rattle.std.proofs.Common.{◌≡◌, ◌+◌, ◌-◌, ◌≤◌, List, ◌∷◌, ◌++◌, length, take, drop, ap, sym, ◌∙◌, arith}
 use Rattle.std.proofs.lemmas.List.{take-append-drop, length-take-le}
 use Rattle.ct_definitions.specs.declared.store.Row.{Row}
-use Rattle.ct_slots.specs.Pages.{RecordPage, IsRecordPage, Fits, rows_on, shown_on, with_rows, images_len, rows_use}
+use Rattle.ct_slots.specs.Pages.{rows_on, shown_on, with_rows, images_len, rows_use}
 use Rattle.ct_slots.proofs.Rows.{rows_use-is}
 use Rattle.ct_slots.proofs.Decode.{made_page, made_shows}
 use Rattle.ct_slots.proofs.Places.{few_rows, lowest}
-use Rattle.ct_slots.proofs.Edits.{PutsIn, put_in_is, fits_with}
+use Rattle.ct_slots.proofs.Edits.{put_in_is, fits_with}
 use Rattle.ct_slots.proofs.edit.put_in.Goals as goal
 
 pub overflow_mul-entry : goal.overflow_mul-entry

@@ -1,11 +1,11 @@
-use Rattle.std.proofs.Common.{◌≡◌, ℕ, suc, ◌+◌, ◌-◌, ◌*◌, ◌<◌, ◌≤◌, List, ◌∷◌, ◌++◌, length, take, drop, refl, ap, sym, ◌∙◌, arith}
+use Rattle.std.proofs.Common.{◌≡◌, suc, ◌+◌, ◌-◌, ◌*◌, List, ◌∷◌, ◌++◌, length, take, drop, ap, sym, ◌∙◌, arith}
 use Rattle.std.proofs.lemmas.List.{length-take-le}
 use Rattle.ct_definitions.specs.declared.store.Row.{Row}
-use Rattle.ct_slots.specs.Pages.{RecordPage, IsRecordPage, Fits, rows_on, row_on, shown_on, with_rows, images_len}
+use Rattle.ct_slots.specs.Pages.{rows_on, row_on, shown_on, with_rows, images_len}
 use Rattle.ct_slots.proofs.Rows.{rows_use-is}
 use Rattle.ct_slots.proofs.Decode.{made_page, made_shows}
 use Rattle.ct_slots.proofs.Places.{few_rows, lowest, split_at, row_on_page, entry_at_place, lens_at}
-use Rattle.ct_slots.proofs.Edits.{TakesOut, take_out_is, fits_without}
+use Rattle.ct_slots.proofs.Edits.{take_out_is, fits_without}
 use Rattle.ct_slots.proofs.edit.take_out.Goals as goal
 
 pub overflow_mul-entry : goal.overflow_mul-entry

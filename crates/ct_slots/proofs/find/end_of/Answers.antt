@@ -1,4 +1,4 @@
-use Rattle.std.proofs.Common.{◌≡◌, ◌+◌, ◌-◌, take, sym, ap, ◌∙◌, arith}
+use Rattle.std.proofs.Common.{◌≡◌, ◌+◌, ◌-◌, take, ap, ◌∙◌, arith}
 use Rattle.ct_slots.specs.Pages.{images_len, rows_on}
 use Rattle.ct_slots.proofs.Places.{few_rows, offset_at_place}
 use Rattle.ct_slots.proofs.find.end_of.Goals as goal

@@ -1,8 +1,7 @@
-use Rattle.std.proofs.Common.{◌≡◌, ℕ, ◌+◌, ◌*◌, List, take, drop, Option, Some, ap, ◌∙◌, sym, subst, arith}
-use Rattle.std.specs.Prelude.{slice_get, IfSome}
+use Rattle.std.proofs.Common.{◌≡◌, ◌+◌, ◌*◌, take, drop, Option, ap, ◌∙◌, sym, subst, arith}
+use Rattle.std.specs.Prelude.{IfSome}
 use Rattle.ct_definitions.specs.declared.store.Row.{Row}
 use Rattle.ct_page.specs.Fields.{u16_at}
-use Rattle.ct_slots.specs.Pages.{rows_on, row_on}
 use Rattle.ct_slots.proofs.Places.{few_rows, image_within, row_on_page}
 use Rattle.ct_slots.proofs.find.image_of.Goals as goal
 

@@ -1,4 +1,4 @@
-use Rattle.std.proofs.Common.{◌≡◌, ℕ, ◌+◌, ◌*◌, ◌/◌, ◌<◌, arith}
+use Rattle.std.proofs.Common.{◌+◌, ◌/◌, arith}
 use Rattle.ct_slots.proofs.Places.{few_rows, sorted_on, place_by_nums}
 use Rattle.ct_slots.proofs.find.place_of.Goals as goal
 

@@ -1,6 +1,6 @@
-use Rattle.std.proofs.Common.{◌≡◌, length, take, ap, arith}
+use Rattle.std.proofs.Common.{◌≡◌, take, ap, arith}
 use Rattle.std.proofs.lemmas.List.{take_all}
-use Rattle.ct_slots.specs.Pages.{images_len, rows_use, rows_on}
+use Rattle.ct_slots.specs.Pages.{images_len, rows_on}
 use Rattle.ct_slots.proofs.Rows.{rows_use-is}
 use Rattle.ct_slots.proofs.Places.{few_rows}
 use Rattle.ct_slots.proofs.find.room.Goals as goal

@@ -1,5 +1,4 @@
-use Rattle.std.proofs.Common.{◌∙◌, ap, refl, arith}
-use Rattle.ct_page.specs.Fields.{with_bytes}
+use Rattle.std.proofs.Common.{◌∙◌, refl, arith}
 use Rattle.ct_slots.specs.Pages.{entry_bytes}
 use Rattle.ct_slots.proofs.Cuts.{entry_over}
 use Rattle.ct_slots.proofs.moves.open_entry.Goals as goal

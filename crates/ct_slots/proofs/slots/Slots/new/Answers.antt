@@ -1,6 +1,5 @@
-use Rattle.std.proofs.Common.{◌≡◌, ℕ, zero, ◌-◌, ◌<◌, List, [], ◌++◌, drop, replicate, refl, ap, sym, ◌∙◌, arith}
-use Rattle.ct_page.specs.Headers.{header_bytes}
-use Rattle.ct_slots.specs.Pages.{RecordPage, Fits, record_header, page_of}
+use Rattle.std.proofs.Common.{[], ◌∙◌, arith}
+use Rattle.ct_slots.specs.Pages.{RecordPage}
 use Rattle.ct_slots.proofs.Decode.{made_page, made_shows}
 use Rattle.ct_slots.proofs.Made.{empty_page, empty_fits}
 use Rattle.ct_slots.proofs.slots.Slots.new.Goals as goal
