@@ -1,3 +1,4 @@
 pub mod Texts
 pub mod Enclosing
+pub mod GroupTexts
 pub mod GroupLaws

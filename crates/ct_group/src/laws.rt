@@ -1,12 +1,13 @@
 //! The laws of the formats, as the contract of a call that does nothing.
 //! They hold of the formats themselves, whatever code reads or writes them.
 
-ghost use Rattle.std.specs.Prelude.{◌≡◌, List, ℕ, [], ◌++◌};
+ghost use Rattle.std.specs.Prelude.{◌≡◌, List, ℕ, [], ◌++◌, length};
 ghost use Rattle.ct_codec.specs.Codec.{IsBytes, IsExact};
 ghost use Rattle.ct_definitions.specs.declared.change.Transaction.{Transaction};
 ghost use Rattle.ct_group.specs.declared.group.Group.{Group};
+ghost use Rattle.ct_group.specs.declared.group.Image.{Image};
 ghost use Rattle.ct_group.specs.Commit.{commit_text};
-ghost use Rattle.ct_group.specs.Groups.{group_codec, FitsGroup, IsWritable};
+ghost use Rattle.ct_group.specs.Groups.{group_codec, FitsImage, FitsGroup, IsWritable};
 
 /// Groups are spelled in one way each: what is read is spelled so, and what fits its fields is read again,
 /// whatever follows.
@@ -14,6 +15,7 @@ pub fn groups_are_exact()
     ensures group { IsExact group_codec FitsGroup }
     // A commit has the text that `write_commit` writes.
     ensures commit { (t : Transaction) → group_codec.text (Group.Commit t) ≡ commit_text t }
+    ensures image { (image : Image) → FitsImage image → length (group_codec.text (Group.Image image)) ≡ 4121 }
     // What fits its fields can be written.
     ensures writable { (group : Group) → FitsGroup group → IsWritable group }
     // Bytes that are read as one group are the same.

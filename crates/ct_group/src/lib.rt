@@ -1,4 +1,4 @@
-//! The groups of a log, both ways: a commit so far.
+//! The groups of a log, both ways: commits, images of pages, checkpoints and marks.
 //! `specs/Commit.antt` says how a transaction is spelled, `specs/Groups.antt` how a group is read.
 #![tactic(auto)]
 
@@ -7,7 +7,7 @@ mod laws;
 mod read;
 mod write;
 
-pub use group::Group;
+pub use group::{Checkpoint, Group, Image, Unfinished};
 pub use laws::groups_are_exact;
 pub use read::read_group;
 pub use write::{write_commit, write_group};

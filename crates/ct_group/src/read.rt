@@ -3,16 +3,17 @@
 
 ghost use Rattle.std.specs.Prelude.{◌≡◌, ◌++◌, ◌^◌, List, ℕ, length, IfOk};
 ghost use Rattle.std.specs.Int.{w32, w64};
-ghost use Rattle.ct_codec.specs.Formats.{counted, times};
+ghost use Rattle.ct_codec.specs.Formats.{number, counted, times};
 ghost use Rattle.ct_codec.specs.Answers.{Gives, TakesNoMemory, ReadsFront, BeginsWith, IsAnswer};
 ghost use Rattle.ct_change_codec.specs.ChangeFormat.{change_codec};
 ghost use Rattle.ct_group.specs.declared.group.Group.{Group};
-ghost use Rattle.ct_group.specs.Enclosed.{up_to, read_whole};
-ghost use Rattle.ct_group.specs.Groups.{made_codec, body_codec, commit_codec, group_codec, FitsGroup};
+ghost use Rattle.ct_group.specs.declared.group.Kind.TheVariants as kind;
+ghost use Rattle.ct_group.specs.Enclosed.{up_to, read_whole, enclosed};
+ghost use Rattle.ct_group.specs.Groups.{made_codec, commit_codec, unfinished_codec, kind_codec, most_body, body_codec, group_codec, FitsGroup};
 
-use crate::group::Group;
+use crate::group::{Checkpoint, Group, Image, Kind, Unfinished};
 use ct_change_codec::change_at;
-use ct_codec::{Fault, ReadFault, front_of, read_bytes, read_u8, read_u16, read_u32, read_u64};
+use ct_codec::{Fault, ReadFault, front_of, read_bytes, read_u16, read_u32, read_u64};
 use ct_definitions::{Changes, Made, Transaction};
 use ct_items::Items;
 use std::alloc::Global;
@@ -20,18 +21,24 @@ use std::alloc::Global;
 /// The last number that a transaction can have.
 const LAST_NUMBER: u64 = 1 << 63;
 
+/// The last number that a page can have.
+const LAST_PAGE: u64 = (1 << 50) - 1;
+
+/// The last place of a log.
+const LAST_PLACE: u64 = 1 << 62;
+
 /// How many changes a commit has at most.
 const MOST_CHANGES: u32 = 4096;
 
-/// How many bytes the body of a commit has at most: 15, and those of the changes.
-const MOST_BODY: u32 = 15 + 8_388_608;
+/// How many bytes a page has.
+const PAGE: usize = 4096;
 
-fn number_at(bytes: &[u8]) -> Result<(u64, &[u8]), Fault>
-    ensures reads { Gives (λ x. (x.0, x.1.now)) result ((up_to w64 (2 ^ 63)).read bytes.now) }
+fn number_at(most: u64, bytes: &[u8]) -> Result<(u64, &[u8]), Fault>
+    ensures reads { Gives (λ x. (x.0, x.1.now)) result ((up_to w64 most).read bytes.now) }
     ensures memory { TakesNoMemory result }
 {
     let (number, rest) = read_u64(bytes)?;
-    if number > LAST_NUMBER {
+    if number > most {
         return Err(Fault::Bad(bytes.len()));
     }
     Ok((number, rest))
@@ -81,44 +88,148 @@ fn changes_at(alloc: Global, bytes: &[u8]) -> Result<(Changes, &[u8]), Fault>
     changes_of(alloc, count, rest)
 }
 
-#[tactic(auto, unfolding(crate::specs::Groups::body_codec))]
-fn transaction_at(alloc: Global, bytes: &[u8]) -> Result<(Transaction, &[u8]), Fault>
-    ensures { Gives (λ x. (x.0, x.1.now)) result (body_codec.read bytes.now) }
+#[tactic(auto, unfolding(crate::specs::Groups::commit_codec))]
+fn commit_at(alloc: Global, bytes: &[u8]) -> Result<(Group, &[u8]), Fault>
+    ensures { Gives (λ x. (x.0, x.1.now)) result ((body_codec kind.Commit).read bytes.now) }
 {
-    let (number, rest) = number_at(bytes)?;
+    let (number, rest) = number_at(LAST_NUMBER, bytes)?;
     let (session, rest) = read_u16(rest)?;
     let (made, rest) = made_at(rest)?;
     let (changes, rest) = changes_at(alloc, rest)?;
-    Ok((
-        Transaction {
-            number,
-            session,
-            made,
-            changes,
-        },
-        rest,
-    ))
+    let transaction = Transaction {
+        number,
+        session,
+        made,
+        changes,
+    };
+    Ok((Group::Commit(transaction), rest))
 }
 
-/// The transaction that all of these bytes are.
-fn transaction_of(alloc: Global, body: &[u8]) -> Result<Transaction, Fault>
-    ensures { Gives (λ x. x) result (read_whole body_codec body.now) }
+#[tactic(auto, unfolding(crate::specs::Groups::image_codec))]
+fn image_at(alloc: Global, bytes: &[u8]) -> Result<(Group, &[u8]), Fault>
+    ensures { Gives (λ x. (x.0, x.1.now)) result ((body_codec kind.Image).read bytes.now) }
 {
-    let (transaction, rest) = transaction_at(alloc, body)?;
+    let (page, rest) = number_at(LAST_PAGE, bytes)?;
+    let (transaction, rest) = number_at(LAST_NUMBER, rest)?;
+    let (steps, rest) = read_u32(rest)?;
+    let (field, rest) = read_bytes(PAGE, rest)?;
+    let image = Image {
+        page,
+        transaction,
+        steps,
+        bytes: Items::from_slice(alloc, field)?,
+    };
+    Ok((Group::Image(image), rest))
+}
+
+#[tactic(auto, unfolding(crate::specs::Groups::unfinished_codec))]
+fn one_unfinished_at(bytes: &[u8]) -> Result<(Unfinished, &[u8]), Fault>
+    ensures reads { Gives (λ x. (x.0, x.1.now)) result (unfinished_codec.read bytes.now) }
+    ensures memory { TakesNoMemory result }
+{
+    let (number, rest) = number_at(LAST_NUMBER, bytes)?;
+    let (steps, rest) = read_u32(rest)?;
+    Ok((Unfinished { number, steps }, rest))
+}
+
+fn unfinished_of(
+    alloc: Global,
+    count: u32,
+    bytes: &[u8],
+) -> Result<(Items<Unfinished>, &[u8]), Fault>
+    ensures { Gives (λ x. (x.0, x.1.now)) result ((times unfinished_codec count).read bytes.now) }
+{
+    let mut unfinished = Items::new(alloc);
+    let mut rest = bytes;
+    for _ in 0..count {
+        let (one, after) = one_unfinished_at(rest)?;
+        unfinished.push(one)?;
+        rest = after;
+    }
+    Ok((unfinished, rest))
+}
+
+fn unfinished_at(alloc: Global, bytes: &[u8]) -> Result<(Items<Unfinished>, &[u8]), Fault>
+    ensures { Gives (λ x. (x.0, x.1.now)) result ((counted (number w32) unfinished_codec).read bytes.now) }
+{
+    let (count, rest) = read_u32(bytes)?;
+    unfinished_of(alloc, count, rest)
+}
+
+#[tactic(auto, unfolding(crate::specs::Groups::checkpoint_codec))]
+fn checkpoint_at(alloc: Global, bytes: &[u8]) -> Result<(Group, &[u8]), Fault>
+    ensures { Gives (λ x. (x.0, x.1.now)) result ((body_codec kind.Checkpoint).read bytes.now) }
+{
+    let (redo, rest) = number_at(LAST_PLACE, bytes)?;
+    let (unfinished, rest) = unfinished_at(alloc, rest)?;
+    Ok((Group::Checkpoint(Checkpoint { redo, unfinished }), rest))
+}
+
+#[tactic(auto, unfolding(crate::specs::Groups::mark_codec))]
+fn mark_at(bytes: &[u8]) -> Result<(Group, &[u8]), Fault>
+    ensures { Gives (λ x. (x.0, x.1.now)) result ((body_codec kind.Mark).read bytes.now) }
+{
+    let (last, rest) = number_at(LAST_NUMBER, bytes)?;
+    Ok((Group::Mark(last), rest))
+}
+
+#[tactic(auto, unfolding(crate::specs::Groups::kind_codec))]
+fn kind_at(bytes: &[u8]) -> Result<(Kind, &[u8]), Fault>
+    ensures reads { Gives (λ x. (x.0, x.1.now)) result (kind_codec.read bytes.now) }
+    ensures memory { TakesNoMemory result }
+{
+    match bytes {
+        [] => Err(Fault::Bad(0)),
+        [1, rest @ ..] => Ok((Kind::Commit, rest)),
+        [2, rest @ ..] => Ok((Kind::Image, rest)),
+        [3, rest @ ..] => Ok((Kind::Checkpoint, rest)),
+        [4, rest @ ..] => Ok((Kind::Mark, rest)),
+        [_, ..] => Err(Fault::Bad(bytes.len())),
+    }
+}
+
+/// How many bytes the body of a kind has at most.
+fn most_body(kind: Kind) -> u32
+    ensures { result ≡ most_body kind }
+{
+    match kind {
+        Kind::Commit => 15 + 8_388_608,
+        Kind::Image => 20 + 4096,
+        Kind::Checkpoint => u32::MAX,
+        Kind::Mark => 8,
+    }
+}
+
+fn body_at(alloc: Global, kind: Kind, bytes: &[u8]) -> Result<(Group, &[u8]), Fault>
+    ensures { Gives (λ x. (x.0, x.1.now)) result ((body_codec kind).read bytes.now) }
+{
+    match kind {
+        Kind::Commit => commit_at(alloc, bytes),
+        Kind::Image => image_at(alloc, bytes),
+        Kind::Checkpoint => checkpoint_at(alloc, bytes),
+        Kind::Mark => mark_at(bytes),
+    }
+}
+
+/// The group whose body all of these bytes are.
+fn whole_body(alloc: Global, kind: Kind, body: &[u8]) -> Result<Group, Fault>
+    ensures { Gives (λ x. x) result (read_whole (body_codec kind) body.now) }
+{
+    let (group, rest) = body_at(alloc, kind, body)?;
     if !rest.is_empty() {
         return Err(Fault::Bad(rest.len()));
     }
-    Ok(transaction)
+    Ok(group)
 }
 
-#[tactic(auto, unfolding(crate::specs::Groups::commit_codec))]
-fn commit_at(alloc: Global, bytes: &[u8]) -> Result<(Transaction, &[u8]), Fault>
-    ensures { Gives (λ x. (x.0, x.1.now)) result (commit_codec.read bytes.now) }
+/// The group of this kind at the front of bytes that begin with its body's length.
+fn enclosed_at(alloc: Global, kind: Kind, bytes: &[u8]) -> Result<(Group, &[u8]), Fault>
+    ensures { Gives (λ x. (x.0, x.1.now)) result ((enclosed (up_to w32 (most_body kind)) (body_codec kind)).read bytes.now) }
 {
-    let (len, rest) = count_at(MOST_BODY, bytes)?;
+    let (len, rest) = count_at(most_body(kind), bytes)?;
     let (body, rest) = read_bytes(len as usize, rest)?;
-    match transaction_of(alloc, body) {
-        Ok(transaction) => Ok((transaction, rest)),
+    match whole_body(alloc, kind, body) {
+        Ok(group) => Ok((group, rest)),
         Err(Fault::Bad(left)) => Err(Fault::Bad(left + rest.len())),
         Err(Fault::Memory) => Err(Fault::Memory),
     }
@@ -128,12 +239,8 @@ fn commit_at(alloc: Global, bytes: &[u8]) -> Result<(Transaction, &[u8]), Fault>
 fn group_at(alloc: Global, bytes: &[u8]) -> Result<(Group, &[u8]), Fault>
     ensures { Gives (λ x. (x.0, x.1.now)) result (group_codec.read bytes.now) }
 {
-    let (kind, rest) = read_u8(bytes)?;
-    if kind != 1 {
-        return Err(Fault::Bad(bytes.len()));
-    }
-    let (transaction, rest) = commit_at(alloc, rest)?;
-    Ok((Group::Commit(transaction), rest))
+    let (kind, rest) = kind_at(bytes)?;
+    enclosed_at(alloc, kind, rest)
 }
 
 /// The group at the front of some bytes, and how many of them it takes.

@@ -44,30 +44,58 @@ fn commits_are_written(rt: HostRuntime) -> Result<(), Fail> {
     Ok(())
 }
 
+// Page 3 with zeros, as step 1 of transaction 2.
+fn image() -> [u8; 4121] {
+    let mut bytes = [0; 4121];
+    bytes[..3].copy_from_slice(&[2, 20, 16]);
+    bytes[5] = 3;
+    bytes[13] = 2;
+    bytes[21] = 1;
+    bytes
+}
+
+// Reading is needed from the first chunk on, and transaction 2 has made one step.
+const CHECKPOINT: [u8; 29] = [
+    3, 24, 0, 0, 0, 0, 48, 0, 0, 0, 0, 0, 0, 1, 0, 0, 0, 2, 0, 0, 0, 0, 0, 0, 0, 1, 0, 0, 0,
+];
+
+// Behind transaction 2.
+const MARK: [u8; 13] = [4, 8, 0, 0, 0, 2, 0, 0, 0, 0, 0, 0, 0];
+
+// whether the bytes are one group, and are what is written of it
+fn comes_back(alloc: Global, bytes: &[u8]) -> Result<bool, Fail> {
+    groups_are_exact();
+    let (group, len) = read_group(alloc, bytes)?;
+    let mut again = Vec::new(alloc);
+    write_group(&group, &mut again)?;
+    Ok(len == bytes.len() && again.as_slice() == bytes)
+}
+
 #[test]
 fn groups_come_back(rt: HostRuntime) -> Result<(), Fail> {
-    groups_are_exact();
-    let (group, len) = read_group(rt.alloc(), &COMMIT)?;
-    assert_eq!(rt; len, 39);
-    assert!(rt; group == Group::Commit(one_add(rt.alloc())?));
-    let mut bytes = Vec::new(rt.alloc());
-    write_group(&group, &mut bytes)?;
-    assert_eq!(rt; bytes.as_slice(), COMMIT.as_slice());
+    assert!(rt; comes_back(rt.alloc(), &COMMIT)?);
+    assert!(rt; comes_back(rt.alloc(), &image())?);
+    assert!(rt; comes_back(rt.alloc(), &CHECKPOINT)?);
+    assert!(rt; comes_back(rt.alloc(), &MARK)?);
     Ok(())
+}
+
+// where the first field is that does not fit
+fn bad_place(alloc: Global, bytes: &[u8]) -> Option<usize> {
+    match read_group(alloc, bytes) {
+        Err(ReadFault::Bad { at }) => Some(at),
+        _ => None,
+    }
 }
 
 #[test]
 fn places_are_told(rt: HostRuntime) {
-    assert!(rt;
-        matches!(
-            read_group(rt.alloc(), &COMMIT[..38]),
-            Err(ReadFault::Bad { at: 38 })
-        )
-    );
-    assert!(rt;
-        matches!(
-            read_group(rt.alloc(), &COMMIT[1..]),
-            Err(ReadFault::Bad { at: 0 })
-        )
-    );
+    let alloc = rt.alloc();
+    assert_eq!(rt; bad_place(alloc, &COMMIT[..38]), Some(38));
+    assert_eq!(rt; bad_place(alloc, &COMMIT[1..]), Some(0));
+    let mut bytes = image();
+    bytes[11] = 4;
+    assert_eq!(rt; bad_place(alloc, &bytes), Some(5));
+    bytes[1] = 21;
+    assert_eq!(rt; bad_place(alloc, &bytes), Some(1));
 }

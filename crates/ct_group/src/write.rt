@@ -1,21 +1,24 @@
 //! Writers of groups, at the end of some bytes.
 //! One that pushes leaves a part of its text where memory runs out, and its caller cuts it off.
 
-ghost use Rattle.std.specs.Prelude.{◌≡◌, ◌<◌, ◌≤◌, ◌^◌, ◌+◌, ◌++◌, length, take, drop, OnOk, OnErr, All};
+ghost use Rattle.std.specs.Prelude.{◌≡◌, ◌<◌, ◌≤◌, ◌^◌, ◌+◌, ◌∷◌, ◌++◌, length, take, drop, flat_map, OnOk, OnErr, All};
 ghost use Rattle.std.specs.Int.{w32, to_le_bytes};
 ghost use Rattle.ct_codec.specs.Answers.{KeepsFront};
 ghost use Rattle.ct_change_codec.specs.ChangeFormat.{FitsChange, LengthsFit};
 ghost use Rattle.ct_group.specs.Commit.{made_number, changes_text, commit_body, commit_text, FitsCommit};
-ghost use Rattle.ct_group.specs.Groups.{group_codec, FitsTransaction, FitsGroup, IsWritable};
+ghost use Rattle.ct_group.specs.Groups.{image_codec, unfinished_codec, group_codec, FitsTransaction, FitsImage, FitsCheckpoint, FitsGroup, IsImage, IsCheckpoint, IsWritable};
 
-use crate::group::Group;
+use crate::group::{Checkpoint, Group, Image, Unfinished};
 use ct_change_codec::push_change;
-use ct_codec::{write_u8, write_u16, write_u32, write_u64};
+use ct_codec::{write_bytes, write_u8, write_u16, write_u32, write_u64};
 use ct_definitions::{Change, Made, Transaction};
 use ct_items::NoMemory;
 
 /// The bytes of a group before its body: its kind, and the body's length.
 const HEAD: usize = 5;
+
+/// The bytes of an image's body.
+const IMAGE_BODY: u32 = 20 + 4096;
 
 fn made_number(made: Made) -> u8
     ensures { result ≡ made_number made }
@@ -92,8 +95,95 @@ pub fn write_commit(transaction: &Transaction, into: &mut Vec<u8>) -> Result<(),
     written
 }
 
-/// Writes a group behind what stands there, or leaves the bytes as they are.
+/// Adds a group's kind and the length of its body.
+fn push_head(kind: u8, len: u32, into: &mut Vec<u8>) -> Result<(), NoMemory>
+    ensures ok { OnOk result (into.new.items ≡ into.old.items ++ kind ∷ to_le_bytes w32 len) }
+    ensures err { OnErr result (KeepsFront into.old.items into.new.items) }
+{
+    write_u8(kind, into)?;
+    write_u32(len, into)
+}
+
+fn push_image_body(image: &Image, into: &mut Vec<u8>) -> Result<(), NoMemory>
+    ensures ok { OnOk result (into.new.items ≡ into.old.items ++ image_codec.text image.now) }
+    ensures fits { OnOk result (image.now.steps < 2 ^ 32) }
+    ensures err { OnErr result (KeepsFront into.old.items into.new.items) }
+{
+    write_u64(image.page, into)?;
+    write_u64(image.transaction, into)?;
+    write_u32(image.steps, into)?;
+    write_bytes(image.bytes.as_slice(), into)
+}
+
+fn push_image(image: &Image, into: &mut Vec<u8>) -> Result<(), NoMemory>
+    requires { IsImage image.now }
+    ensures ok { OnOk result (into.new.items ≡ into.old.items ++ group_codec.text (Group.Image image.now)) }
+    ensures fits { OnOk result (FitsImage image.now) }
+    ensures err { OnErr result (KeepsFront into.old.items into.new.items) }
+{
+    push_head(2, IMAGE_BODY, into)?;
+    push_image_body(image, into)
+}
+
+#[tactic(auto, unfolding(crate::specs::Groups::unfinished_codec))]
+fn push_one_unfinished(one: Unfinished, into: &mut Vec<u8>) -> Result<(), NoMemory>
+    ensures ok { OnOk result (into.new.items ≡ into.old.items ++ unfinished_codec.text one) }
+    ensures fits { OnOk result (one.steps < 2 ^ 32) }
+    ensures err { OnErr result (KeepsFront into.old.items into.new.items) }
+{
+    write_u64(one.number, into)?;
+    write_u32(one.steps, into)
+}
+
+fn push_unfinished(unfinished: &[Unfinished], into: &mut Vec<u8>) -> Result<(), NoMemory>
+    ensures ok { OnOk result (into.new.items ≡ into.old.items ++ flat_map unfinished_codec.text unfinished.now) }
+    ensures fits { OnOk result (All (λ one. one.steps < 2 ^ 32) unfinished.now) }
+    ensures err { OnErr result (KeepsFront into.old.items into.new.items) }
+{
+    for one in unfinished {
+        push_one_unfinished(*one, into)?;
+    }
+    Ok(())
+}
+
+fn push_checkpoint(checkpoint: &Checkpoint, into: &mut Vec<u8>) -> Result<(), NoMemory>
+    requires { IsCheckpoint checkpoint.now }
+    ensures ok { OnOk result (into.new.items ≡ into.old.items ++ group_codec.text (Group.Checkpoint checkpoint.now)) }
+    ensures fits { OnOk result (FitsCheckpoint checkpoint.now) }
+    ensures err { OnErr result (KeepsFront into.old.items into.new.items) }
+{
+    let unfinished = checkpoint.unfinished.as_slice();
+    push_head(3, (12 + 12 * unfinished.len()) as u32, into)?;
+    write_u64(checkpoint.redo, into)?;
+    write_u32(unfinished.len() as u32, into)?;
+    push_unfinished(unfinished, into)
+}
+
+fn push_mark(number: u64, into: &mut Vec<u8>) -> Result<(), NoMemory>
+    ensures ok { OnOk result (into.new.items ≡ into.old.items ++ group_codec.text (Group.Mark number)) }
+    ensures err { OnErr result (KeepsFront into.old.items into.new.items) }
+{
+    push_head(4, 8, into)?;
+    write_u64(number, into)
+}
+
+/// Adds a group at the end. Where memory runs out, a part of it may stand there.
 #[tactic(auto, using(crate::proofs::GroupLaws::commit_spelled))]
+fn push_group(group: &Group, into: &mut Vec<u8>) -> Result<(), NoMemory>
+    requires { IsWritable group.now }
+    ensures ok { OnOk result (into.new.items ≡ into.old.items ++ group_codec.text group.now) }
+    ensures fits { OnOk result (FitsGroup group.now) }
+    ensures err { OnErr result (KeepsFront into.old.items into.new.items) }
+{
+    match group {
+        Group::Commit(transaction) => push_commit(transaction, into),
+        Group::Image(image) => push_image(image, into),
+        Group::Checkpoint(checkpoint) => push_checkpoint(checkpoint, into),
+        Group::Mark(number) => push_mark(*number, into),
+    }
+}
+
+/// Writes a group behind what stands there, or leaves the bytes as they are.
 pub fn write_group(group: &Group, into: &mut Vec<u8>) -> Result<(), NoMemory>
     requires { IsWritable group.now }
     ensures ok { OnOk result (into.new.items ≡ into.old.items ++ group_codec.text group.now) }
@@ -101,7 +191,10 @@ pub fn write_group(group: &Group, into: &mut Vec<u8>) -> Result<(), NoMemory>
     ensures fits { OnOk result (FitsGroup group.now) }
     ensures err { OnErr result (into.new.items ≡ into.old.items) }
 {
-    match group {
-        Group::Commit(transaction) => write_commit(transaction, into),
+    let begin = into.len();
+    let written = push_group(group, into);
+    if written.is_err() {
+        into.truncate(begin);
     }
+    written
 }

@@ -3,7 +3,7 @@
 ghost use Rattle.std.specs.Prelude.{◌≡◌, ◌≤◌, ◌<◌, ◌+◌, ◌^◌, ℕ, min, true, false, length, [], drop, IsTrue, IsErrOf, OnOk, IfOk, Ok, Err};
 ghost use Rattle.ct_definitions.specs.Histories.{after_changes, allows_all};
 ghost use Rattle.ct_disk.specs.Disk.{Rose};
-ghost use Rattle.ct_group.specs.Groups.{transaction_of};
+ghost use Rattle.ct_group.specs.Groups.{commit_of};
 ghost use Rattle.ct_log.specs.Flow.{SameFlow};
 ghost use Rattle.ct_log.specs.Heads.{is_start};
 ghost use Rattle.ct_log.specs.Reading.{IsRead, log_bytes};
@@ -112,7 +112,9 @@ fn commit_at(alloc: Global, number: u64, bytes: &[u8]) -> Result<(Transaction, u
 {
     match read_group(alloc, bytes) {
         Ok((group, size)) => {
-            let transaction = transaction_of(group);
+            let Some(transaction) = commit_of(group) else {
+                return Err(Refused::NotDefined);
+            };
             if transaction.number != number {
                 return Err(Refused::NotDefined);
             }
@@ -123,12 +125,13 @@ fn commit_at(alloc: Global, number: u64, bytes: &[u8]) -> Result<(Transaction, u
     }
 }
 
-/// The transaction of a commit.
-fn transaction_of(group: Group) -> Transaction
-    ensures { result ≡ transaction_of group }
+/// The transaction of a commit; a group of another kind has none.
+fn commit_of(group: Group) -> Option<Transaction>
+    ensures { result ≡ commit_of group }
 {
     match group {
-        Group::Commit(transaction) => transaction,
+        Group::Commit(transaction) => Some(transaction),
+        Group::Image(_) | Group::Checkpoint(_) | Group::Mark(_) => None,
     }
 }
 

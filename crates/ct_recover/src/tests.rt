@@ -24,6 +24,9 @@ const ADD: [u8; 45] = [
     0, 0, 0, 0, 0, 4, 0, 0, 0, 48, 48, 48, 49, 0,
 ];
 
+// A chunk whose group is a mark behind transaction 1, and the closed gate that ends the log.
+const MARK: [u8; 19] = [1, 13, 0, 0, 0, 4, 8, 0, 0, 0, 1, 0, 0, 0, 0, 0, 0, 0, 0];
+
 /// Where the second chunk stands, and where in it the number of its transaction does.
 const SECOND_AT: u64 = CHUNKS_AT + 52;
 
@@ -45,6 +48,13 @@ fn two_chunks(alloc: Global, number: u8) -> Result<MemDisk, DiskError> {
     let mut device = log_with(alloc, &MAKE)?;
     device.write_at(SECOND_AT, &ADD)?;
     device.write_at(NUMBER_AT, &[number])?;
+    Ok(device)
+}
+
+// a log whose second chunk has a mark
+fn chunk_and_mark(alloc: Global) -> Result<MemDisk, DiskError> {
+    let mut device = log_with(alloc, &MAKE)?;
+    device.write_at(SECOND_AT, &MARK)?;
     Ok(device)
 }
 
@@ -110,6 +120,11 @@ fn a_closed_header_is_undone(rt: HostRuntime) {
 fn damage_is_told_with_its_place(rt: HostRuntime) {
     let alloc = rt.alloc();
     let device = two_chunks(alloc, 3).expect(&rt, "a log");
+    assert_eq!(rt;
+        refusal(alloc, device),
+        Some(OpenFault::BadLog(SECOND_AT + 5))
+    );
+    let device = chunk_and_mark(alloc).expect(&rt, "a log");
     assert_eq!(rt;
         refusal(alloc, device),
         Some(OpenFault::BadLog(SECOND_AT + 5))
