@@ -22,7 +22,7 @@ length-log_from content at =
     length-drop at (log_bytes content) ∙ omega arith
 
 -- the front of a list with zeros behind it
-padded : (m k : ℕ) (xs : List ℕ) → m ≤ k → take m (xs ++ replicate k 0) ≡ take m xs ++ replicate (m - length xs) 0
+pub padded : (m k : ℕ) (xs : List ℕ) → m ≤ k → take m (xs ++ replicate k 0) ≡ take m xs ++ replicate (m - length xs) 0
 padded zero k xs within = let none : 0 - length xs ≡ 0 = omega arith in ap (λ n. replicate n 0) (sym none)
 padded (suc m) k [] within = let all : suc m ≡ suc m - 0 = omega arith in take-replicate (suc m) k 0 within ∙ ap (λ n. replicate n 0) all
 padded (suc m) k (x ∷ xs) within =

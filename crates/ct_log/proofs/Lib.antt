@@ -9,4 +9,5 @@ pub mod HeadReads
 pub mod MadeHeads
 pub mod Steps
 pub mod Torn
+pub mod Windows
 pub mod Zeros

@@ -1,9 +1,11 @@
 -- What a reader finds at a place of a log.
-use Rattle.std.specs.Prelude.{◌≡◌, ◌+◌, ◌^◌, ◌==◌, ℕ, List, [], ◌∷◌, length, take, drop, nat_lt, if◌then◌else◌, Option, Some, None, Result, Ok, Err}
+use Rattle.std.specs.Prelude.{◌≡◌, ◌≤◌, ◌+◌, ◌-◌, ◌^◌, ◌==◌, ℕ, Bool, IsTrue, min, List, [], ◌∷◌, length, take, drop, nat_lt, if◌then◌else◌, Option, Some, None, Result, Ok, Err}
 use Rattle.std.specs.Int.{w32, from_le_bytes}
 use Rattle.ct_disk.specs.Disk.{GoesOn, unchanged}
 use Rattle.ct_log.specs.declared.read.Chunk.{Chunk}
 use Rattle.ct_log.specs.declared.read.LogFault.{LogFault}
+use Rattle.ct_log.specs.declared.window.Part.{Part}
+use Rattle.ct_log.specs.declared.window.Window.{Window}
 use Rattle.ct_log.specs.declared.read.LogFault.TheVariants.{Bad, Fault, Memory}
 
 -- the bytes of a log device, which is taken as ending at 2^62
@@ -39,3 +41,29 @@ Tells (Err Memory) place found = Unit {0}
 pub record IsRead {D : Type 0} (content : D → List ℕ) (may_leave : D → List ℕ → Type 0) (left_since : D → D → List ℕ → Type 0) (old new : D) : Type 0 where
   pub same : content new ≡ content old
   pub goes_on : GoesOn may_leave left_since unchanged old new
+
+-- The window's bytes are those of the log at its place, and it knows where the log ends.
+pub record IsWindow {D : Type 0} (tells : Bool) (content : D → List ℕ) (size : D → ℕ) (device : D) (window : Window) : Type 0 where
+  pub end : window.end ≡ min (size device) (2 ^ 62)
+  pub bytes : IsTrue tells → window.bytes ≡ take (length window.bytes) (drop window.place (log_bytes (content device)))
+
+-- The window has the bytes from one place up to another.
+pub record Covers (window : Window) (place to : ℕ) : Type 0 where
+  pub from : window.place ≤ place
+  pub up_to : to ≤ window.place + length window.bytes
+
+-- the bytes that a window has from a place on
+abbrev pub seen_from : Window → ℕ → List ℕ
+seen_from window place = drop (place - window.place) window.bytes
+
+-- the groups of a chunk that stands in a window
+abbrev pub groups_in : Window → Part → List ℕ
+groups_in window part = take part.len (drop part.from window.bytes)
+
+-- the answer tells what was found at this place, and the window has it
+abbrev pub TellsPart : Result (Option Part) LogFault → Window → ℕ → Found → Type 0
+TellsPart (Ok None) window place found = found ≡ nothing
+TellsPart (Ok (Some part)) window place found = (found ≡ chunk (groups_in window part)) × (part.next ≡ place + 5 + length (groups_in window part))
+TellsPart (Err (Bad at)) window place found = (found ≡ damage) × (at ≡ place)
+TellsPart (Err Fault) window place found = Unit {0}
+TellsPart (Err Memory) window place found = Unit {0}

@@ -2,6 +2,7 @@
 //! a chunk whole or not at all.
 #![tactic(auto)]
 
+mod find;
 mod flow;
 mod flush;
 mod groups;
@@ -14,7 +15,9 @@ mod moves;
 mod pages;
 mod read;
 mod stage;
+mod window;
 
+pub use find::{find_chunk, open_window};
 pub use flow::Flow;
 pub use groups::Groups;
 pub use head::{Head, Start, has_open_header, read_head};
@@ -24,6 +27,7 @@ pub use log::Log;
 pub use make::{is_id, make_log, open_gate, pad, write_behind};
 pub use read::{Chunk, LogFault, read_chunk};
 pub use stage::{FlushAt, Stage};
+pub use window::{Part, Window};
 
 #[cfg(test)]
 mod tests;

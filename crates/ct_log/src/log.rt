@@ -1,20 +1,22 @@
 //! A log: a device and what is known of it in memory.
 
 ghost use Rattle.std.specs.Prelude.{◌≡◌, ◌↔◌, ◌<◌, ◌≤◌, ◌+◌, ◌^◌, ◌++◌, [], ◌∷◌, List, ℕ, length, take, drop, IsTrue, OnOk, OnErr, IfOk, IfErr, IfSome, IsErrOf, MatchResult, Ok, Err};
-ghost use Rattle.ct_disk.specs.Disk.{Only, Rose};
+ghost use Rattle.ct_disk.specs.Disk.{CountsFault, Only, Rose};
 ghost use Rattle.ct_log.specs.Chunks.{BeginsWithChunk, EndsAfter};
 ghost use Rattle.ct_log.specs.Flow.{has_room, IsAtRest, SameFlow, Queued};
 ghost use Rattle.ct_log.specs.Front.{is_id, front};
 ghost use Rattle.ct_log.specs.Heads.{TellsHead, head_in, is_start};
-ghost use Rattle.ct_log.specs.Reading.{IsRead, Tells, found_in, log_bytes};
+ghost use Rattle.ct_log.specs.Reading.{IsRead, IsWindow, Tells, TellsPart, found_in, groups_in, log_bytes};
 ghost use Rattle.ct_log.specs.Log.{IsLog, durable_text};
 
+use crate::find::{find_chunk, open_window};
 use crate::flow::Flow;
 use crate::head::{Head, read_head};
 use crate::pages::FIRST_CHUNK;
 use crate::read::{Chunk, LogFault, read_chunk};
 use crate::stage::Stage;
-use ct_disk::Disk;
+use crate::window::{Part, Window};
+use ct_disk::{Disk, DiskFault};
 use ct_items::NoMemory;
 use std::alloc::Global;
 
@@ -81,6 +83,37 @@ impl<L: Disk> Log<L> {
         ensures cause { IsErrOf result LogFault.Fault → Rose (L.faults self.old.device) (L.faults self.new.device) }
     {
         read_chunk(alloc, &mut self.device, place)
+    }
+
+    /// A window on the log, in which nothing is read yet.
+    pub fn window(&mut self, alloc: Global) -> Result<Window, DiskFault>
+        ensures window { IfOk result (λ window. IsWindow L.tells L.content L.size self.new.device window) }
+        ensures flow { SameFlow self.old.flow self.new.flow }
+        ensures read { IsTrue L.tells → IsRead L.content L.may_leave L.left_since self.old.device self.new.device }
+        ensures size { L.size self.new.device ≡ L.size self.old.device }
+        ensures reads { L.reads self.new.device ≡ L.reads self.old.device }
+        ensures cause { CountsFault (L.faults self.old.device) (L.faults self.new.device) result }
+    {
+        open_window(alloc, &mut self.device)
+    }
+
+    /// Finds the chunk at a place, by a window that then has its groups.
+    pub fn find_from(&mut self, window: &mut Window, place: u64) -> Result<Option<Part>, LogFault>
+        requires place { place ≤ 2 ^ 62 }
+        requires window { IsWindow L.tells L.content L.size self.old.device window.old }
+        ensures found { IsTrue L.tells → TellsPart result window.new place (found_in (drop place (log_bytes (L.content self.old.device)))) }
+        ensures next { IfOk result (λ found. IfSome found (λ part. (place + 5 ≤ part.next) × (part.next ≤ 2 ^ 62))) }
+        ensures held { IfOk result (λ found. IfSome found (λ part. part.from + part.len ≤ length window.new.bytes)) }
+        ensures bytes { IsTrue L.tells → IfOk result (λ found. IfSome found (λ part. BeginsWithChunk (groups_in window.new part) (drop place (log_bytes (L.content self.old.device))))) }
+        ensures window { IsWindow L.tells L.content L.size self.new.device window.new }
+        ensures flow { SameFlow self.old.flow self.new.flow }
+        ensures read { IsTrue L.tells → IsRead L.content L.may_leave L.left_since self.old.device self.new.device }
+        ensures size { L.size self.new.device ≡ L.size self.old.device }
+        ensures reads { L.reads self.new.device ≤ L.reads self.old.device + 2 }
+        ensures later { L.faults self.old.device ≤ L.faults self.new.device }
+        ensures cause { IsErrOf result LogFault.Fault → Rose (L.faults self.old.device) (L.faults self.new.device) }
+    {
+        find_chunk(&mut self.device, window, place)
     }
 
     /// Tells where the log ends: at the place of the first gate that is not open, and which ordinal comes next.

@@ -1,6 +1,6 @@
 //! Reading a log, chunk by chunk.
 
-ghost use Rattle.std.specs.Prelude.{◌≡◌, ◌≤◌, ◌<◌, ◌+◌, ◌^◌, ℕ, slice_index, min, ◌++◌, IsTrue, IfOk, IfSome, IsErrOf, length, take, drop};
+ghost use Rattle.std.specs.Prelude.{◌≡◌, ◌↔◌, ◌≤◌, ◌<◌, ◌+◌, ◌^◌, ℕ, slice_index, min, ◌++◌, IsTrue, IfOk, IfSome, IsErrOf, length, take, drop};
 ghost use Rattle.std.specs.Int.{w32, from_le_bytes};
 ghost use Rattle.ct_disk.specs.Disk.{CountsFault, Rose};
 ghost use Rattle.ct_log.specs.Chunks.{BeginsWithChunk};
@@ -14,7 +14,7 @@ use std::alloc::{AllocError, Global};
 use thiserror::Error;
 
 /// A gate and the four bytes of a length behind it.
-const FRAME: u64 = 5;
+pub(crate) const FRAME: u64 = 5;
 
 const OPEN: u8 = 1;
 
@@ -92,7 +92,7 @@ pub fn read_chunk<L: Disk>(
     ensures cause { IsErrOf result LogFault.Fault → Rose (L.faults device.old) (L.faults device.new) }
 {
     let frame = read_frame(device, place)?;
-    if frame[0] != OPEN {
+    if !has_open_gate(&frame) {
         return Ok(None);
     }
     let len = groups_len(&frame);
@@ -100,7 +100,7 @@ pub fn read_chunk<L: Disk>(
     if log_end(device)? < next {
         return Err(LogFault::Bad { at: place });
     }
-    let groups = read_groups(alloc, device, place + FRAME, len as usize)?;
+    let groups = read_bytes(alloc, device, place + FRAME, len as usize)?;
     Ok(Some(Chunk { groups, next }))
 }
 
@@ -119,8 +119,15 @@ fn read_frame<L: Disk>(device: &mut L, place: u64) -> Result<[u8; 5], DiskFault>
     Ok(frame)
 }
 
+/// Whether a chunk's gate is open.
+pub(crate) fn has_open_gate(frame: &[u8; 5]) -> bool
+    ensures { IsTrue result ↔ (slice_index frame.now 0 ≡ 1) }
+{
+    frame[0] == OPEN
+}
+
 /// The length of a chunk's groups.
-fn groups_len(frame: &[u8; 5]) -> u32
+pub(crate) fn groups_len(frame: &[u8; 5]) -> u32
     ensures len { result ≡ from_le_bytes w32 (drop 1 frame.now) }
     ensures bytes { (k : ℕ) → slice_index frame.now k < 256 }
 {
@@ -128,7 +135,7 @@ fn groups_len(frame: &[u8; 5]) -> u32
 }
 
 /// Where a log on a device ends at most.
-fn log_end<L: Disk>(device: &mut L) -> Result<u64, DiskFault>
+pub(crate) fn log_end<L: Disk>(device: &mut L) -> Result<u64, DiskFault>
     ensures end { IfOk result (λ end. end ≡ min (L.size device.old) (2 ^ 62)) }
     ensures read { IsTrue L.tells → IsRead L.content L.may_leave L.left_since device.old device.new }
     ensures size { L.size device.new ≡ L.size device.old }
@@ -140,15 +147,15 @@ fn log_end<L: Disk>(device: &mut L) -> Result<u64, DiskFault>
 }
 
 /// Reads bytes that the device has.
-fn read_groups<L: Disk>(
+pub(crate) fn read_bytes<L: Disk>(
     alloc: Global,
     device: &mut L,
     place: u64,
     len: usize,
 ) -> Result<Items<u8>, LogFault>
     requires { place + len ≤ min (L.size device.old) (2 ^ 62) }
-    ensures groups { IsTrue L.tells → IfOk result (λ groups. groups ≡ take len (drop place (L.content device.old))) }
-    ensures len { IfOk result (λ groups. length groups ≡ len) }
+    ensures bytes { IsTrue L.tells → IfOk result (λ bytes. bytes ≡ take len (drop place (L.content device.old))) }
+    ensures len { IfOk result (λ bytes. length bytes ≡ len) }
     ensures read { IsTrue L.tells → IsRead L.content L.may_leave L.left_since device.old device.new }
     ensures size { L.size device.new ≡ L.size device.old }
     ensures reads { L.reads device.new ≤ L.reads device.old + 1 }
@@ -156,7 +163,7 @@ fn read_groups<L: Disk>(
     ensures later { L.faults device.old ≤ L.faults device.new }
     ensures cause { IsErrOf result LogFault.Fault → Rose (L.faults device.old) (L.faults device.new) }
 {
-    let mut groups = Vec::from_elem(alloc, 0, len)?;
-    device.read(place, groups.as_mut_slice())?;
-    Ok(Items::from_vec(groups))
+    let mut bytes = Vec::from_elem(alloc, 0, len)?;
+    device.read(place, bytes.as_mut_slice())?;
+    Ok(Items::from_vec(bytes))
 }

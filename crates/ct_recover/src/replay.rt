@@ -6,7 +6,7 @@ ghost use Rattle.ct_disk.specs.Disk.{Rose};
 ghost use Rattle.ct_group.specs.Groups.{commit_of};
 ghost use Rattle.ct_log.specs.Flow.{SameFlow};
 ghost use Rattle.ct_log.specs.Heads.{is_start};
-ghost use Rattle.ct_log.specs.Reading.{IsRead, log_bytes};
+ghost use Rattle.ct_log.specs.Reading.{IsRead, IsWindow, log_bytes};
 ghost use Rattle.ct_recover.specs.Replaying.{IsWithin, BeginsWithCommit, BeginsWithNone, HasNoNext, ReplaysCommit, ReplaysGroup, ReplaysGroups, ReplaysChunk, ReplaysLog, ordinal_after};
 
 use crate::fault::{OpenFault, fault_of};
@@ -14,7 +14,7 @@ use ct_codec::ReadFault;
 use ct_definitions::{Change, Transaction};
 use ct_disk::Disk;
 use ct_group::{Group, read_group};
-use ct_log::{Chunk, Log, Start};
+use ct_log::{Log, Part, Start, Window};
 use ct_model::{Refused, State, apply};
 use std::alloc::Global;
 
@@ -163,8 +163,12 @@ pub(crate) fn replay_log<L: Disk>(
     ensures not_empty { result ≡ Err OpenFault.NotEmpty → ⊥ }
     ensures undone { result ≡ Err OpenFault.Undone → ⊥ }
 {
+    let mut window = match log.window(alloc) {
+        Ok(window) => window,
+        Err(_) => return Err(OpenFault::Device),
+    };
     loop {
-        match replay_chunk(alloc, log, replay) {
+        match replay_chunk(alloc, log, &mut window, replay) {
             Ok(true) => {}
             Ok(false) => return Ok(()),
             Err(fault) => return Err(fault),
@@ -172,16 +176,19 @@ pub(crate) fn replay_log<L: Disk>(
     }
 }
 
-/// Replays the next chunk of a log, and answers whether there was one.
+/// Replays the next chunk of a log, which is found by a window, and answers whether there was one.
 fn replay_chunk<L: Disk>(
     alloc: Global,
     log: &mut Log<L>,
+    window: &mut Window,
     replay: &mut Replay,
 ) -> Result<bool, OpenFault>
     requires within { IsWithin replay.old }
+    requires window { IsWindow L.tells L.content L.size log.old.device window.old }
     ensures replayed { ReplaysChunk L.tells (drop replay.old.place (log_bytes (L.content log.old.device))) result replay.old replay.new }
     ensures within { OnOk result (IsWithin replay.new) }
     ensures onward { IfOk result (λ more. IsTrue more → replay.old.place < replay.new.place) }
+    ensures window { IsWindow L.tells L.content L.size log.new.device window.new }
     ensures flow { SameFlow log.old.flow log.new.flow }
     ensures read { IsTrue L.tells → IsRead L.content L.may_leave L.left_since log.old.device log.new.device }
     ensures later { L.faults log.old.device ≤ L.faults log.new.device }
@@ -189,12 +196,12 @@ fn replay_chunk<L: Disk>(
     ensures not_empty { result ≡ Err OpenFault.NotEmpty → ⊥ }
     ensures undone { result ≡ Err OpenFault.Undone → ⊥ }
 {
-    match log.read_from(alloc, replay.place) {
-        Ok(Some(chunk)) => {
-            if let Err(fault) = replay.replay_groups(alloc, chunk.groups.as_slice()) {
+    match log.find_from(window, replay.place) {
+        Ok(Some(part)) => {
+            if let Err(fault) = replay.replay_groups(alloc, window.groups(part)) {
                 return Err(fault);
             }
-            replay.place = chunk.next;
+            replay.place = part.next;
             Ok(true)
         }
         Ok(None) => Ok(false),

@@ -6,7 +6,7 @@ use Rattle.ct_log.specs.declared.log.Log.{Log}
 use Rattle.ct_log.proofs.HeadReads.{IsRead-then}
 use Rattle.ct_recover.specs.Replaying.{IsWithin, ReplaysChunk}
 use Rattle.ct_recover.specs.declared.replay.Replay.{Replay}
-use Rattle.ct_recover.proofs.ChunkReplays.{chunk_more, of_told}
+use Rattle.ct_recover.proofs.ChunkReplays.{chunk_more, chunk_none, of_told}
 use Rattle.ct_recover.proofs.replay.replay_log.Invariants.{IsRunning}
 use Rattle.ct_recover.proofs.replay.replay_log.Goals as goal
 
@@ -39,7 +39,21 @@ on tells content may_leave left_since count_of log mid now old so new more runni
       later = omega (arith, running.later, later);
     }
 
-pub loop-fault-preserved : goal.loop-fault-preserved
-loop-fault-preserved g c =
-    on g.L.Disk.tells g.L.Disk.content g.L.Disk.may_leave g.L.Disk.left_since g.L.Disk.faults c.args.log.now c.loop-fault.log c.replay_chunk.new.log c.args.replay.now c.loop-fault.replay c.replay_chunk.new.replay
-    c.in-Ok-true.field-0 c.loop-fault.invariant c.in-Ok-true.field-0-test c.in-Ok-true.ensures.replayed c.in-Ok-true.ensures.within c.in-Ok-true.ensures.flow c.in-Ok-true.ensures.read c.in-Ok-true.ensures.later
+pub loop-window-preserved : goal.loop-window-preserved
+loop-window-preserved g c = (
+  on g.L.Disk.tells g.L.Disk.content g.L.Disk.may_leave g.L.Disk.left_since g.L.Disk.faults c.args.log.now c.loop-window.log c.replay_chunk.new.log c.args.replay.now c.loop-window.replay c.replay_chunk.new.replay
+      c.in-Ok-true.field-0 c.loop-window.invariant.0 c.in-Ok-true.field-0-test c.in-Ok-true.ensures.replayed c.in-Ok-true.ensures.within c.in-Ok-true.ensures.flow c.in-Ok-true.ensures.read c.in-Ok-true.ensures.later,
+  c.in-Ok-true.ensures.window,
+)
+
+pub loop-window-init : goal.loop-window-init
+loop-window-init g c = (
+  record {
+    up_to = chunk_none g.L.Disk.tells (log_bytes (g.L.Disk.content c.args.log.now.device)) c.args.replay.now c.requires.within;
+    within = c.requires.within;
+    flow = c.in-Ok.ensures.flow;
+    read = c.in-Ok.ensures.read;
+    later = c.in-Ok.ensures.cause.later;
+  },
+  c.in-Ok.ensures.window,
+)

@@ -1,6 +1,6 @@
 use Rattle.std.proofs.Common.{◌-◌, ◌^◌, ◌≤◌, Bool, IsTrue, ℕ, List}
 use Rattle.ct_log.specs.Flow.{SameFlow}
-use Rattle.ct_log.specs.Reading.{IsRead, log_bytes}
+use Rattle.ct_log.specs.Reading.{IsRead, IsWindow, log_bytes}
 use Rattle.ct_log.specs.declared.log.Log.{Log}
 use Rattle.ct_recover.specs.Replaying.{IsWithin, ReplaysTo}
 use Rattle.ct_recover.specs.declared.replay.Replay.{Replay}
@@ -14,8 +14,10 @@ pub record IsRunning {L : Type 0} (tells : Bool) (content : L → List ℕ) (may
   pub read : IsTrue tells → IsRead content may_leave left_since log.device now.device
   pub later : count_of log.device ≤ count_of now.device
 
-abbrev pub invariant-loop-fault : goal.invariant-loop-fault
-invariant-loop-fault g l = IsRunning g.L.Disk.tells g.L.Disk.content g.L.Disk.may_leave g.L.Disk.left_since g.L.Disk.faults l.initial.log l.initial.replay l.log l.replay
+abbrev pub invariant-loop-window : goal.invariant-loop-window
+invariant-loop-window g l =
+    IsRunning g.L.Disk.tells g.L.Disk.content g.L.Disk.may_leave g.L.Disk.left_since g.L.Disk.faults l.fn.log l.initial.replay l.log l.replay
+    × IsWindow g.L.Disk.tells g.L.Disk.content g.L.Disk.size l.log.device l.window
 
-abbrev pub decreases-loop-fault : goal.decreases-loop-fault
-decreases-loop-fault g l = 2 ^ 62 - l.replay.place
+abbrev pub decreases-loop-window : goal.decreases-loop-window
+decreases-loop-window g l = 2 ^ 62 - l.replay.place
