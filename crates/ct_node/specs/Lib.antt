@@ -3,4 +3,5 @@ pub mod Cells
 pub mod Places
 pub mod Stored
 pub mod Halves
+pub mod Pages
 pub use Rattle.ct_definitions.specs.Pairs

@@ -3,7 +3,9 @@
 //! page, in cells of one width, so a pair is found by halves and an edit moves bytes once.
 #![tactic(auto)]
 
+mod bounds;
 mod cells;
+mod check;
 mod edge;
 mod node;
 mod pair;

@@ -1,6 +1,6 @@
 //! A node: its bounds, its right link and its entries, and the edits of one.
 
-ghost use Rattle.std.specs.Prelude.{◌≡◌, ◌≤◌, ◌<◌, ◌+◌, ◌*◌, [], ◌++◌, length, take, drop, filter, slice_get, false, true, nat_lt, if◌then◌else◌, None};
+ghost use Rattle.std.specs.Prelude.{◌≡◌, ◌≤◌, ◌<◌, ◌+◌, ◌*◌, [], ◌++◌, length, take, drop, filter, slice_get, false, true, nat_lt, if◌then◌else◌, Some, None, IsSome};
 ghost use Rattle.std.specs.List.{prefix_len};
 ghost use Rattle.std.specs.Option.{option_map_or};
 ghost use Rattle.std.specs.Ordering.{is_eq};
@@ -9,13 +9,17 @@ ghost use Rattle.ct_node.specs.Nodes.{IsNode, pairs_in, capacity_of, is_from, is
 ghost use Rattle.ct_node.specs.Cells.{cells_of, pair_at};
 ghost use Rattle.ct_node.specs.Places.{is_before, is_past, is_ahead, here, down, next_place};
 ghost use Rattle.ct_node.specs.Halves.{middle_of, upper_half, lower_half};
+ghost use Rattle.ct_node.specs.Pages.{node_in, header_in, page_text};
 
+use crate::bounds::{BOUND_SIZE, read_bound, write_bound};
 use crate::cells::{
-    cmp_at, copy_cells, count_before, insert_entry, page_at, remove_cell, width_of,
+    cmp_at, copy_cells, count_before, insert_entry, page_at, remove_cell, width_of, write_at,
 };
+use crate::check::is_node_page;
 use crate::edge::Edge;
 use crate::pair::Pair;
 use crate::target::{Place, Target};
+use ct_page::{HEADER_SIZE, Header, PAGE_SIZE, PageKind, u16_at, u64_at};
 use std::marker::Model;
 
 /// How many bytes of a page a node has for its bounds and entries.
@@ -74,6 +78,73 @@ impl Node {
             right: 0,
             count: 0,
             cells: [0; BODY],
+        }
+    }
+
+    /// The node of a page, or `None` where it is outside the grammar of nodes.
+    pub fn from_page(bytes: &[u8; PAGE_SIZE]) -> Option<Node>
+        ensures node { result ≡ node_in bytes.now }
+    {
+        if !is_node_page(bytes) {
+            return None;
+        }
+        Some(Node::from_node_page(bytes))
+    }
+
+    /// The node of a page that is known to be one.
+    pub fn from_node_page(bytes: &[u8; PAGE_SIZE]) -> Node
+        requires { IsSome (node_in bytes.now) }
+        ensures { Some result ≡ node_in bytes.now }
+    {
+        let key_len = usize::from(bytes[24]);
+        let high_at = HEADER_SIZE + (BOUND_SIZE + key_len);
+        let cells_at = high_at + (BOUND_SIZE + key_len);
+        let mut cells = [0; BODY];
+        cells[..PAGE_SIZE - cells_at].copy_from_slice(&bytes[cells_at..]);
+        Node {
+            file: u16_at(bytes, 2),
+            index: u16_at(bytes, 4),
+            leaf: bytes[0] == PageKind::Leaf.number(),
+            key_len,
+            low: read_bound(bytes, HEADER_SIZE, key_len),
+            high: read_bound(bytes, high_at, key_len),
+            right: u64_at(bytes, 16),
+            count: usize::from(u16_at(bytes, 6)),
+            cells,
+        }
+    }
+
+    /// Writes the page of this node, with the position of its last image.
+    pub fn to_page(&self, position: u64, into: &mut [u8; PAGE_SIZE])
+        ensures text { into.new ≡ page_text position self.now }
+        ensures node { node_in into.new ≡ Some self.now }
+    {
+        self.header(position).write(into);
+        let high_at = HEADER_SIZE + (BOUND_SIZE + self.key_len);
+        let cells_at = high_at + (BOUND_SIZE + self.key_len);
+        let len = self.count * width_of(self.key_len, self.leaf);
+        write_bound(into, HEADER_SIZE, self.key_len, self.low);
+        write_bound(into, high_at, self.key_len, self.high);
+        write_at(into, cells_at, &self.cells[..len]);
+        into[cells_at + len..].fill(0);
+    }
+
+    /// The header of its page.
+    fn header(&self, position: u64) -> Header
+        ensures header { result ≡ header_in position self.now }
+    {
+        Header {
+            kind: if self.leaf {
+                PageKind::Leaf
+            } else {
+                PageKind::Inner
+            },
+            file: self.file,
+            index: self.index,
+            count: self.count as u16,
+            position,
+            right: self.right,
+            key_len: self.key_len as u8,
         }
     }
 
@@ -366,7 +437,7 @@ fn is_cell_of(
 }
 
 /// How many entries a node has room for.
-fn capacity_of(key_len: usize, leaf: bool) -> usize
+pub(crate) fn capacity_of(key_len: usize, leaf: bool) -> usize
     requires { key_len ≤ 128 }
     ensures { result ≡ capacity_of key_len leaf }
 {
