@@ -62,7 +62,7 @@ length-entry_bytes false entry =
 abbrev pub entry_in : Bool → Pair → ℕ → Entry
 entry_in leaf pair child = record { pair = pair; child = cond leaf 0 child }
 
-pair_at-bytes : (key_len : ℕ) (pair : Pair) (rest : List ℕ) → length pair.key ≡ key_len → pair.num < 2 ^ 64 → pair_at key_len (pair_bytes pair ++ rest) ≡ pair
+pub pair_at-bytes : (key_len : ℕ) (pair : Pair) (rest : List ℕ) → length pair.key ≡ key_len → pair.num < 2 ^ 64 → pair_at key_len (pair_bytes pair ++ rest) ≡ pair
 pair_at-bytes key_len pair rest long small =
     let whole : pair_bytes pair ++ rest ≡ pair.key ++ (to_be_bytes w64 pair.num ++ rest) = append_assoc pair.key (to_be_bytes w64 pair.num) rest in
     let key : take key_len (pair_bytes pair ++ rest) ≡ pair.key = ap (take key_len) whole ∙ take_at pair.key (to_be_bytes w64 pair.num ++ rest) key_len long in

@@ -1,5 +1,5 @@
 -- Pages that are nodes: when a page is one, what it shows, and its bytes.
-use Rattle.std.specs.Prelude.{ℕ, ◌+◌, ◌-◌, ◌*◌, ◌==◌, ◌&&◌, ◌||◌, Bool, true, nat_le, if◌then◌else◌, List, [], ◌∷◌, ◌++◌, length, take, drop, replicate, flat_map, slice_index, Option, Some, None}
+use Rattle.std.specs.Prelude.{◌≡◌, ◌<◌, ◌^◌, ℕ, ◌+◌, ◌-◌, ◌*◌, ◌==◌, ◌&&◌, ◌||◌, Bool, true, nat_le, if◌then◌else◌, List, [], ◌∷◌, ◌++◌, length, take, drop, replicate, flat_map, slice_index, Option, Some, None}
 use Rattle.std.specs.List.{list_all}
 use Rattle.std.specs.Ordering.{is_lt}
 use Rattle.ct_definitions.specs.Pairs.{Pair, pair_cmp}
@@ -24,11 +24,11 @@ key_len_in page = slice_index page 24
 
 -- where the high bound stands: behind the header and the low bound, which has 9 bytes and a key
 abbrev pub high_at : ℕ → ℕ
-high_at key_len = 137 + key_len
+high_at key_len = 128 + (9 + key_len)
 
 -- where the entries stand: behind both bounds
 abbrev pub cells_at : ℕ → ℕ
-cells_at key_len = 146 + 2 * key_len
+cells_at key_len = 128 + 2 * (9 + key_len)
 
 -- where the entries of a page end
 abbrev pub cells_end : List ℕ → ℕ
@@ -65,10 +65,17 @@ rises (pair ∷ next ∷ pairs) = is_lt (pair_cmp pair next) && rises (next ∷ 
 abbrev pub is_in_order : NodeValue → Bool
 is_in_order node = rises (pairs_in node) && list_all (is_within node.low node.high) (pairs_in node)
 
--- whether a page has the header of a node, with a key length from 1 to 128 and no more entries than there is room for
+-- whether keys can be so long: from 1 to 128 bytes
+abbrev pub is_key_len : ℕ → Bool
+is_key_len key_len = nat_le 1 key_len && nat_le key_len 128
+
+-- whether a page says that it is a node with keys
+abbrev pub is_node_of_keys : List ℕ → Bool
+is_node_of_keys page = has_header page && is_node_kind (slice_index page 0) && is_key_len (key_len_in page)
+
+-- whether a page has the header of a node, with no more entries than there is room for
 unfoldable pub has_node_header : List ℕ → Bool
-has_node_header page =
-    has_header page && is_node_kind (slice_index page 0) && nat_le 1 (key_len_in page) && nat_le (key_len_in page) 128 && nat_le (u16_at 6 page) (capacity_of (key_len_in page) (is_leaf_in page))
+has_node_header page = is_node_of_keys page && nat_le (u16_at 6 page) (capacity_of (key_len_in page) (is_leaf_in page))
 
 -- whether both bounds of a page are in the grammar
 abbrev pub has_bounds : List ℕ → Bool
@@ -86,6 +93,11 @@ node_in page = if is_node_page page then Some (value_in page) else None
 abbrev pub bound_bytes : ℕ → Option Pair → List ℕ
 bound_bytes key_len None = replicate (9 + key_len) 0
 bound_bytes key_len (Some pair) = 1 ∷ pair_bytes pair
+
+-- what a bound has that can be written: a key of the node's length, and a number of eight bytes
+abbrev pub IsFitting : ℕ → Option Pair → Type 0
+IsFitting key_len None = Unit {0}
+IsFitting key_len (Some pair) = (length pair.key ≡ key_len) × (pair.num < 2 ^ 64)
 
 -- the header of a node's page
 abbrev pub header_in : ℕ → NodeValue → Header

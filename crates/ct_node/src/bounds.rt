@@ -1,24 +1,41 @@
 //! The bounds of a node in the bytes of its page: a byte that says whether one is open, and its pair.
 
-ghost use Rattle.std.specs.Prelude.{◌≡◌, ◌≤◌, ◌+◌, ◌∷◌, length, drop, replicate, option_map};
+ghost use Rattle.std.specs.Prelude.{◌≡◌, ◌≤◌, ◌+◌, ◌∷◌, length, take, drop, replicate, option_map, Some};
 ghost use Rattle.std.specs.Ordering.{is_lt};
 ghost use Rattle.ct_definitions.specs.Pairs.{pair_cmp};
 ghost use Rattle.ct_page.specs.Fields.{are_zero};
 ghost use Rattle.ct_node.specs.Nodes.{is_from, is_below};
 ghost use Rattle.ct_node.specs.Cells.{pair_at, pair_bytes, with_bytes};
 ghost use Rattle.ct_node.specs.Stored.{edge_pair};
-ghost use Rattle.ct_node.specs.Pages.{is_bound, bound_at, bound_bytes};
+ghost use Rattle.ct_node.specs.Pages.{is_bound, bound_at, bound_bytes, high_at, cells_at, IsFitting};
 
 use crate::cells::{record_at, record_bytes, write_at};
 use crate::edge::Edge;
-use ct_page::PAGE_SIZE;
+use ct_definitions::LONGEST_KEY;
+use ct_page::{HEADER_SIZE, PAGE_SIZE};
 use std::cmp::Ordering;
 
 /// How many bytes a bound has beside its key.
-pub(crate) const BOUND_SIZE: usize = 9;
+const BOUND_SIZE: usize = 9;
 
 /// The first byte of a bound that is a pair.
 const PAIR: u8 = 1;
+
+/// Where the high bound stands: behind the header and the low bound.
+pub(crate) fn high_at(key_len: usize) -> usize
+    requires { key_len ≤ 128 }
+    ensures { result ≡ high_at key_len }
+{
+    HEADER_SIZE + (BOUND_SIZE + key_len)
+}
+
+/// Where the entries stand: behind both bounds.
+pub(crate) fn cells_at(key_len: usize) -> usize
+    requires { key_len ≤ 128 }
+    ensures { result ≡ cells_at key_len }
+{
+    HEADER_SIZE + 2 * (BOUND_SIZE + key_len)
+}
 
 /// Whether the bound at a place is a pair, or open and then all zeros.
 pub(crate) fn is_bound(page: &[u8; PAGE_SIZE], at: usize, key_len: usize) -> bool
@@ -44,7 +61,8 @@ pub(crate) fn read_bound(page: &[u8; PAGE_SIZE], at: usize, key_len: usize) -> O
 pub(crate) fn write_bound(bytes: &mut [u8], at: usize, key_len: usize, bound: Option<Edge>)
     requires key { key_len ≤ 128 }
     requires within { at + (9 + key_len) ≤ length bytes.old }
-    ensures { bytes.new ≡ with_bytes at (bound_bytes key_len (option_map (edge_pair key_len) bound)) bytes.old }
+    ensures bytes { bytes.new ≡ with_bytes at (bound_bytes key_len (option_map (edge_pair key_len) bound)) bytes.old }
+    ensures fits { IsFitting key_len (option_map (edge_pair key_len) bound) }
 {
     match bound {
         None => write_open(bytes, at, key_len),
@@ -64,11 +82,22 @@ fn write_open(bytes: &mut [u8], at: usize, key_len: usize)
 fn write_edge(bytes: &mut [u8], at: usize, key_len: usize, edge: &Edge)
     requires key { key_len ≤ 128 }
     requires within { at + (9 + key_len) ≤ length bytes.old }
-    ensures { bytes.new ≡ with_bytes at (1 ∷ pair_bytes (edge_pair key_len edge.now)) bytes.old }
+    ensures bytes { bytes.new ≡ with_bytes at (1 ∷ pair_bytes (edge_pair key_len edge.now)) bytes.old }
+    ensures fits { IsFitting key_len (Some (edge_pair key_len edge.now)) }
 {
-    bytes[at] = PAIR;
-    write_at(bytes, at + 1, &edge.key[..key_len]);
+    let key = key_of(&edge.key, key_len);
+    write_at(bytes, at, &[PAIR]);
+    write_at(bytes, at + 1, key);
     write_at(bytes, at + 1 + key_len, record_bytes(edge.num).as_slice());
+}
+
+/// The key in the first bytes of those that an edge keeps.
+fn key_of(bytes: &[u8; LONGEST_KEY], key_len: usize) -> &[u8]
+    requires { key_len ≤ 128 }
+    ensures key { result.now ≡ take key_len bytes.now }
+    ensures len { length result.now ≡ key_len }
+{
+    &bytes[..key_len]
 }
 
 /// Whether the pair at a place is at or above a low bound.

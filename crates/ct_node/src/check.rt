@@ -2,13 +2,15 @@
 
 ghost use Rattle.std.specs.Prelude.{◌≡◌, ◌≤◌, ◌+◌, ◌*◌, ◌&&◌, drop, map, true};
 ghost use Rattle.std.specs.List.{list_all};
+ghost use Rattle.ct_page.specs.Fields.{are_zero};
 ghost use Rattle.ct_node.specs.Nodes.{is_within};
 ghost use Rattle.ct_node.specs.Cells.{cells_of, pair_at};
-ghost use Rattle.ct_node.specs.Pages.{is_node_kind, has_node_header, is_bound, bound_at, rises, high_at, is_node_page};
+ghost use Rattle.ct_node.specs.Pages.{is_node_kind, is_key_len, is_leaf_in, is_node_of_keys, has_node_header, is_bound, bound_at, rises, high_at, cells_at, is_node_page};
 
-use crate::bounds::{BOUND_SIZE, are_zero, is_below, is_below_at, is_bound, is_from};
+use crate::bounds::{are_zero, cells_at, high_at, is_below, is_below_at, is_bound, is_from};
 use crate::cells::width_of;
 use crate::node::capacity_of;
+use ct_definitions::LONGEST_KEY;
 use ct_page::{HEADER_SIZE, PAGE_SIZE, PageKind, has_header, u16_at};
 
 /// Whether a page is a node: its header, its bounds, its entries in order within them, and zeros behind.
@@ -20,23 +22,40 @@ pub(crate) fn is_node_page(page: &[u8; PAGE_SIZE]) -> bool
     }
     let key_len = usize::from(page[24]);
     let count = usize::from(u16_at(page, 6));
-    let width = width_of(key_len, page[0] == PageKind::Leaf.number());
-    let cells_at = HEADER_SIZE + 2 * (BOUND_SIZE + key_len);
-    has_bounds(page, key_len)
-        && is_in_order(page, cells_at, count, width, key_len)
-        && are_zero(&page[cells_at + count * width..])
+    has_body(page, count, width_of(key_len, is_leaf(page)), key_len)
 }
 
-/// Whether the header is that of a node, with a key length and no more entries than there is room for.
+/// Whether the body is that of a node: bounds, pairs in order within them, and zeros behind the cells.
+fn has_body(page: &[u8; PAGE_SIZE], count: usize, width: usize, key_len: usize) -> bool
+    requires key { key_len ≤ 128 }
+    requires width { key_len + 8 ≤ width }
+    requires cells { cells_at key_len + count * width ≤ 4096 }
+    ensures { let pairs = map (pair_at key_len) (cells_of width count (drop (cells_at key_len) page.now)) in
+        result ≡ ((is_bound key_len 128 page.now && is_bound key_len (high_at key_len) page.now)
+        && (rises pairs && list_all (is_within (bound_at key_len 128 page.now) (bound_at key_len (high_at key_len) page.now)) pairs)
+        && are_zero (drop (cells_at key_len + count * width) page.now)) }
+{
+    let cells = cells_at(key_len);
+    has_bounds(page, key_len)
+        && is_in_order(page, cells, count, width, key_len)
+        && ends_in_zeros(page, cells + count * width)
+}
+
+/// Whether the header is that of a node, with no more entries than there is room for.
 fn has_node_header(page: &[u8; PAGE_SIZE]) -> bool
     ensures { result ≡ has_node_header page.now }
 {
-    let key_len = usize::from(page[24]);
-    if !has_header(page) || !is_node_kind(page[0]) || key_len < 1 || key_len > 128 {
+    if !is_node_of_keys(page) {
         return false;
     }
-    let leaf = page[0] == PageKind::Leaf.number();
-    usize::from(u16_at(page, 6)) <= capacity_of(key_len, leaf)
+    usize::from(u16_at(page, 6)) <= capacity_of(usize::from(page[24]), is_leaf(page))
+}
+
+/// Whether a page says that it is a node with keys.
+fn is_node_of_keys(page: &[u8; PAGE_SIZE]) -> bool
+    ensures { result ≡ is_node_of_keys page.now }
+{
+    has_header(page) && is_node_kind(page[0]) && is_key_len(page[24])
 }
 
 /// Whether a kind is that of a node.
@@ -46,13 +65,34 @@ fn is_node_kind(kind: u8) -> bool
     kind == PageKind::Leaf.number() || kind == PageKind::Inner.number()
 }
 
+/// Whether keys can be so long.
+fn is_key_len(key_len: u8) -> bool
+    ensures { result ≡ is_key_len key_len }
+{
+    1 <= key_len && usize::from(key_len) <= LONGEST_KEY
+}
+
+/// Whether a page says that it is a leaf.
+pub(crate) fn is_leaf(page: &[u8; PAGE_SIZE]) -> bool
+    ensures { result ≡ is_leaf_in page.now }
+{
+    page[0] == PageKind::Leaf.number()
+}
+
 /// Whether both bounds are in the grammar.
 fn has_bounds(page: &[u8; PAGE_SIZE], key_len: usize) -> bool
     requires { key_len ≤ 128 }
     ensures { result ≡ (is_bound key_len 128 page.now && is_bound key_len (high_at key_len) page.now) }
 {
-    is_bound(page, HEADER_SIZE, key_len)
-        && is_bound(page, HEADER_SIZE + (BOUND_SIZE + key_len), key_len)
+    is_bound(page, HEADER_SIZE, key_len) && is_bound(page, high_at(key_len), key_len)
+}
+
+/// Whether all bytes from a place on are zero.
+fn ends_in_zeros(page: &[u8; PAGE_SIZE], at: usize) -> bool
+    requires { at ≤ 4096 }
+    ensures { result ≡ are_zero (drop at page.now) }
+{
+    are_zero(&page[at..])
 }
 
 /// Whether the pairs of the cells from a place on rise and are within both bounds.
@@ -105,6 +145,5 @@ fn has_ends_within(
         return true;
     }
     let last = at + (count - 1) * width;
-    is_from(page, HEADER_SIZE, at, key_len)
-        && is_below(page, HEADER_SIZE + (BOUND_SIZE + key_len), last, key_len)
+    is_from(page, HEADER_SIZE, at, key_len) && is_below(page, high_at(key_len), last, key_len)
 }

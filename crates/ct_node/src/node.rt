@@ -1,6 +1,6 @@
 //! A node: its bounds, its right link and its entries, and the edits of one.
 
-ghost use Rattle.std.specs.Prelude.{◌≡◌, ◌≤◌, ◌<◌, ◌+◌, ◌*◌, [], ◌++◌, length, take, drop, filter, slice_get, false, true, nat_lt, if◌then◌else◌, Some, None, IsSome};
+ghost use Rattle.std.specs.Prelude.{◌≡◌, ◌≤◌, ◌<◌, ◌+◌, ◌*◌, ◌-◌, [], ◌++◌, length, take, drop, replicate, filter, slice_get, false, true, nat_lt, if◌then◌else◌, Some, None, IsSome};
 ghost use Rattle.std.specs.List.{prefix_len};
 ghost use Rattle.std.specs.Option.{option_map_or};
 ghost use Rattle.std.specs.Ordering.{is_eq};
@@ -11,11 +11,11 @@ ghost use Rattle.ct_node.specs.Places.{is_before, is_past, is_ahead, here, down,
 ghost use Rattle.ct_node.specs.Halves.{middle_of, upper_half, lower_half};
 ghost use Rattle.ct_node.specs.Pages.{node_in, header_in, page_text};
 
-use crate::bounds::{BOUND_SIZE, read_bound, write_bound};
+use crate::bounds::{cells_at, high_at, read_bound, write_bound};
 use crate::cells::{
     cmp_at, copy_cells, count_before, insert_entry, page_at, remove_cell, width_of, write_at,
 };
-use crate::check::is_node_page;
+use crate::check::{is_leaf, is_node_page};
 use crate::edge::Edge;
 use crate::pair::Pair;
 use crate::target::{Place, Target};
@@ -97,20 +97,16 @@ impl Node {
         ensures { Some result ≡ node_in bytes.now }
     {
         let key_len = usize::from(bytes[24]);
-        let high_at = HEADER_SIZE + (BOUND_SIZE + key_len);
-        let cells_at = high_at + (BOUND_SIZE + key_len);
-        let mut cells = [0; BODY];
-        cells[..PAGE_SIZE - cells_at].copy_from_slice(&bytes[cells_at..]);
         Node {
             file: u16_at(bytes, 2),
             index: u16_at(bytes, 4),
-            leaf: bytes[0] == PageKind::Leaf.number(),
+            leaf: is_leaf(bytes),
             key_len,
             low: read_bound(bytes, HEADER_SIZE, key_len),
-            high: read_bound(bytes, high_at, key_len),
+            high: read_bound(bytes, high_at(key_len), key_len),
             right: u64_at(bytes, 16),
             count: usize::from(u16_at(bytes, 6)),
-            cells,
+            cells: cells_of(bytes, cells_at(key_len)),
         }
     }
 
@@ -120,13 +116,12 @@ impl Node {
         ensures node { node_in into.new ≡ Some self.now }
     {
         self.header(position).write(into);
-        let high_at = HEADER_SIZE + (BOUND_SIZE + self.key_len);
-        let cells_at = high_at + (BOUND_SIZE + self.key_len);
+        let cells_at = cells_at(self.key_len);
         let len = self.count * width_of(self.key_len, self.leaf);
         write_bound(into, HEADER_SIZE, self.key_len, self.low);
-        write_bound(into, high_at, self.key_len, self.high);
+        write_bound(into, high_at(self.key_len), self.key_len, self.high);
         write_at(into, cells_at, &self.cells[..len]);
-        into[cells_at + len..].fill(0);
+        clear_from(into, cells_at + len);
     }
 
     /// The header of its page.
@@ -442,4 +437,23 @@ pub(crate) fn capacity_of(key_len: usize, leaf: bool) -> usize
     ensures { result ≡ capacity_of key_len leaf }
 {
     (BODY - 2 * (9 + key_len)) / width_of(key_len, leaf)
+}
+
+/// The bytes of a page from a place on, and zeros behind them.
+fn cells_of(page: &[u8; PAGE_SIZE], at: usize) -> [u8; BODY]
+    requires behind { 128 ≤ at }
+    requires within { at ≤ 4096 }
+    ensures { result ≡ drop at page.now ++ replicate (at - 128) 0 }
+{
+    let mut cells = [0; BODY];
+    copy_cells(page.as_slice(), at, PAGE_SIZE, cells.as_mut_slice());
+    cells
+}
+
+/// Makes the bytes of a page from a place on zeros.
+fn clear_from(page: &mut [u8; PAGE_SIZE], at: usize)
+    requires { at ≤ 4096 }
+    ensures { page.new ≡ take at page.old ++ replicate (4096 - at) 0 }
+{
+    page[at..].fill(0);
 }

@@ -1,0 +1,66 @@
+use Rattle.std.proofs.Common.{◌≡◌, ◌≤◌, ◌∙◌, ap, sym, arith, subst, drop, ◌++◌, ◌-◌, replicate, Some}
+use Rattle.ct_node.specs.Nodes.{IsNode}
+use Rattle.ct_node.specs.Stored.{value_of}
+use Rattle.ct_node.specs.Pages.{value_in, node_in, cells_at, bound_at}
+use Rattle.ct_node.specs.declared.node.Node.TheInside.{Inside}
+use Rattle.ct_node.proofs.PageLemmas.{known_page, header_parts, page_from_parts, IsNode-value_in, node_in-is}
+use Rattle.ct_node.proofs.Readings.{IsRead, value_of-read}
+use Rattle.ct_node.proofs.node.Node.from_node_page.Goals as goal
+
+pub high_at-requires : goal.high_at-requires
+high_at-requires c =
+    let short = (header_parts c.args.bytes.now (known_page c.args.bytes.now c.requires).header).short_key in
+    omega (arith, c.from-key_len.ensures)
+
+pub cells_at-requires : goal.cells_at-requires
+cells_at-requires c =
+    let short = (header_parts c.args.bytes.now (known_page c.args.bytes.now c.requires).header).short_key in
+    omega (arith, c.from-key_len.ensures)
+
+pub read_bound-requires-clause-key : goal.read_bound-requires-clause-key
+read_bound-requires-clause-key c =
+    let short = (header_parts c.args.bytes.now (known_page c.args.bytes.now c.requires).header).short_key in
+    omega (arith, c.from-key_len.ensures)
+
+pub read_bound-requires-2-clause-key : goal.read_bound-requires-2-clause-key
+read_bound-requires-2-clause-key c =
+    let short = (header_parts c.args.bytes.now (known_page c.args.bytes.now c.requires).header).short_key in
+    omega (arith, c.from-key_len.ensures)
+
+pub invariant_of-result : goal.invariant_of-result
+invariant_of-result c =
+    let page = c.args.bytes.now in
+    let has = known_page page c.requires in
+    let n : Inside = record { file = c.u16_at.result; index = c.u16_at-2.result; leaf = c.is_leaf.result; key_len = c.from-key_len.result; low = c.read_bound.result; high = c.read_bound-2.result; right = c.u64_at.result; count = c.from.result; cells = c.cells_of.result } in
+    let is : IsRead page n = record {
+      file = c.u16_at.ensures;
+      index = c.u16_at-2.ensures;
+      leaf = c.is_leaf.ensures;
+      key_len = c.from-key_len.ensures;
+      low = c.read_bound.ensures;
+      high = c.read_bound-2.ensures ∙ ap (λ at. bound_at c.from-key_len.result at page) c.high_at.ensures;
+      right = c.u64_at.ensures;
+      count = c.from.ensures ∙ c.u16_at-3.ensures;
+      rest = replicate (c.cells_at.result - 128) 0;
+      cells = c.cells_of.ensures ∙ ap (λ at. drop at page ++ replicate (c.cells_at.result - 128) 0) c.cells_at.ensures;
+    } in
+    subst IsNode (sym (value_of-read page n c.told-bytes (header_parts page has.header) is)) (IsNode-value_in page has)
+
+pub returns : goal.returns
+returns c =
+    let page = c.args.bytes.now in
+    let has = known_page page c.requires in
+    let n : Inside = record { file = c.u16_at.result; index = c.u16_at-2.result; leaf = c.is_leaf.result; key_len = c.from-key_len.result; low = c.read_bound.result; high = c.read_bound-2.result; right = c.u64_at.result; count = c.from.result; cells = c.cells_of.result } in
+    let is : IsRead page n = record {
+      file = c.u16_at.ensures;
+      index = c.u16_at-2.ensures;
+      leaf = c.is_leaf.ensures;
+      key_len = c.from-key_len.ensures;
+      low = c.read_bound.ensures;
+      high = c.read_bound-2.ensures ∙ ap (λ at. bound_at c.from-key_len.result at page) c.high_at.ensures;
+      right = c.u64_at.ensures;
+      count = c.from.ensures ∙ c.u16_at-3.ensures;
+      rest = replicate (c.cells_at.result - 128) 0;
+      cells = c.cells_of.ensures ∙ ap (λ at. drop at page ++ replicate (c.cells_at.result - 128) 0) c.cells_at.ensures;
+    } in
+    ap Some (value_of-read page n c.told-bytes (header_parts page has.header) is) ∙ sym (node_in-is page (page_from_parts page has))
