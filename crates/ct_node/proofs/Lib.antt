@@ -9,3 +9,4 @@ pub mod Rising
 pub mod Spellings
 pub mod PageLemmas
 pub mod Readings
+pub mod Writings

@@ -55,7 +55,7 @@ header_from_parts page has =
     (le-leb (u16_at 6 page) (capacity_of (get_or page 24 0) (is_leaf_in page)) has.room)
 
 -- as many cells as there is room for end within the page
-room_behind : (key_len : ℕ) (leaf : Bool) (n : ℕ) → key_len ≤ 128 → n ≤ capacity_of key_len leaf → cells_at key_len + n * width_of key_len leaf ≤ 4096
+pub room_behind : (key_len : ℕ) (leaf : Bool) (n : ℕ) → key_len ≤ 128 → n ≤ capacity_of key_len leaf → cells_at key_len + n * width_of key_len leaf ≤ 4096
 room_behind key_len leaf n short fits =
     let width = width_of key_len leaf in
     let bounds = width_of-bounds key_len leaf in

@@ -1,12 +1,14 @@
 //! A node: its bounds, its right link and its entries, and the edits of one.
 
-ghost use Rattle.std.specs.Prelude.{◌≡◌, ◌≤◌, ◌<◌, ◌+◌, ◌*◌, ◌-◌, [], ◌++◌, length, take, drop, replicate, filter, slice_get, false, true, nat_lt, if◌then◌else◌, Some, None, IsSome};
+ghost use Rattle.std.specs.Prelude.{◌≡◌, ℕ, ◌≤◌, ◌<◌, ◌+◌, ◌*◌, ◌-◌, [], ◌++◌, length, take, drop, replicate, filter, slice_get, slice_index, false, true, nat_lt, if◌then◌else◌, Some, None, IsSome, IsTrue};
 ghost use Rattle.std.specs.List.{prefix_len};
 ghost use Rattle.std.specs.Option.{option_map_or};
 ghost use Rattle.std.specs.Ordering.{is_eq};
 ghost use Rattle.ct_definitions.specs.Pairs.{pair_cmp, with_pair};
+ghost use Rattle.ct_page.specs.declared.kind.PageKind.TheVariants.{Leaf, Inner};
+ghost use Rattle.ct_page.specs.Headers.{has_fields};
 ghost use Rattle.ct_node.specs.Nodes.{IsNode, pairs_in, capacity_of, is_from, is_below, is_within, has_pair, with_entry, has_other_pair};
-ghost use Rattle.ct_node.specs.Cells.{cells_of, pair_at};
+ghost use Rattle.ct_node.specs.Cells.{cells_of, pair_at, with_bytes};
 ghost use Rattle.ct_node.specs.Places.{is_before, is_past, is_ahead, here, down, next_place};
 ghost use Rattle.ct_node.specs.Halves.{middle_of, upper_half, lower_half};
 ghost use Rattle.ct_node.specs.Pages.{node_in, header_in, page_text};
@@ -120,27 +122,24 @@ impl Node {
         let len = self.count * width_of(self.key_len, self.leaf);
         write_bound(into, HEADER_SIZE, self.key_len, self.low);
         write_bound(into, high_at(self.key_len), self.key_len, self.high);
-        write_at(into, cells_at, &self.cells[..len]);
+        write_cells(into, cells_at, &self.cells, len);
         clear_from(into, cells_at + len);
     }
 
     /// The header of its page.
     fn header(&self, position: u64) -> Header
         ensures header { result ≡ header_in position self.now }
+        ensures fields { IsTrue (has_fields (header_in position self.now)) }
     {
-        Header {
-            kind: if self.leaf {
-                PageKind::Leaf
-            } else {
-                PageKind::Inner
-            },
-            file: self.file,
-            index: self.index,
-            count: self.count as u16,
+        header_of(
+            self.leaf,
+            self.file,
+            self.index,
+            self.count as u16,
             position,
-            right: self.right,
-            key_len: self.key_len as u8,
-        }
+            self.right,
+            self.key_len as u8,
+        )
     }
 
     pub fn file(&self) -> u16
@@ -439,6 +438,35 @@ pub(crate) fn capacity_of(key_len: usize, leaf: bool) -> usize
     (BODY - 2 * (9 + key_len)) / width_of(key_len, leaf)
 }
 
+/// The header of a node's page.
+fn header_of(
+    leaf: bool,
+    file: u16,
+    index: u16,
+    count: u16,
+    position: u64,
+    right: u64,
+    key_len: u8,
+) -> Header
+    ensures header { result ≡ record { kind = if leaf then Leaf else Inner; file = file; index = index; count = count; position = position; right = right; key_len = key_len } }
+    ensures fields { IsTrue (has_fields result) }
+{
+    let kind = if leaf {
+        PageKind::Leaf
+    } else {
+        PageKind::Inner
+    };
+    Header {
+        kind,
+        file,
+        index,
+        count,
+        position,
+        right,
+        key_len,
+    }
+}
+
 /// The bytes of a page from a place on, and zeros behind them.
 fn cells_of(page: &[u8; PAGE_SIZE], at: usize) -> [u8; BODY]
     requires behind { 128 ≤ at }
@@ -448,6 +476,16 @@ fn cells_of(page: &[u8; PAGE_SIZE], at: usize) -> [u8; BODY]
     let mut cells = [0; BODY];
     copy_cells(page.as_slice(), at, PAGE_SIZE, cells.as_mut_slice());
     cells
+}
+
+/// Writes the first bytes of a node's cells over those of a page from a place on.
+fn write_cells(page: &mut [u8; PAGE_SIZE], at: usize, cells: &[u8; BODY], len: usize)
+    requires len { len ≤ 3968 }
+    requires within { at + len ≤ 4096 }
+    ensures page { page.new ≡ with_bytes at (take len cells.now) page.old }
+    ensures bytes { (i : ℕ) → slice_index cells.now i < 256 }
+{
+    write_at(page, at, &cells[..len]);
 }
 
 /// Makes the bytes of a page from a place on zeros.

@@ -27,40 +27,32 @@ read_bound-requires-2-clause-key c =
     let short = (header_parts c.args.bytes.now (known_page c.args.bytes.now c.requires).header).short_key in
     omega (arith, c.from-key_len.ensures)
 
+-- the fields that were read
+node : goal.After-cells_of → Inside
+node c = record { file = c.u16_at.result; index = c.u16_at-2.result; leaf = c.is_leaf.result; key_len = c.from-key_len.result; low = c.read_bound.result; high = c.read_bound-2.result; right = c.u64_at.result; count = c.from.result; cells = c.cells_of.result }
+
+read : (c : goal.After-cells_of) → IsRead c.args.bytes.now (node c)
+unfolding node
+read c = record {
+  file = c.u16_at.ensures;
+  index = c.u16_at-2.ensures;
+  leaf = c.is_leaf.ensures;
+  key_len = c.from-key_len.ensures;
+  low = c.read_bound.ensures;
+  high = c.read_bound-2.ensures ∙ ap (λ at. bound_at c.from-key_len.result at c.args.bytes.now) c.high_at.ensures;
+  right = c.u64_at.ensures;
+  count = c.from.ensures ∙ c.u16_at-3.ensures;
+  rest = replicate (c.cells_at.result - 128) 0;
+  cells = c.cells_of.ensures ∙ ap (λ at. drop at c.args.bytes.now ++ replicate (c.cells_at.result - 128) 0) c.cells_at.ensures;
+}
+
+value : (c : goal.After-cells_of) → value_of (node c) ≡ value_in c.args.bytes.now
+value c = value_of-read c.args.bytes.now (node c) c.told-bytes (header_parts c.args.bytes.now (known_page c.args.bytes.now c.requires).header) (read c)
+
 pub invariant_of-result : goal.invariant_of-result
-invariant_of-result c =
-    let page = c.args.bytes.now in
-    let has = known_page page c.requires in
-    let n : Inside = record { file = c.u16_at.result; index = c.u16_at-2.result; leaf = c.is_leaf.result; key_len = c.from-key_len.result; low = c.read_bound.result; high = c.read_bound-2.result; right = c.u64_at.result; count = c.from.result; cells = c.cells_of.result } in
-    let is : IsRead page n = record {
-      file = c.u16_at.ensures;
-      index = c.u16_at-2.ensures;
-      leaf = c.is_leaf.ensures;
-      key_len = c.from-key_len.ensures;
-      low = c.read_bound.ensures;
-      high = c.read_bound-2.ensures ∙ ap (λ at. bound_at c.from-key_len.result at page) c.high_at.ensures;
-      right = c.u64_at.ensures;
-      count = c.from.ensures ∙ c.u16_at-3.ensures;
-      rest = replicate (c.cells_at.result - 128) 0;
-      cells = c.cells_of.ensures ∙ ap (λ at. drop at page ++ replicate (c.cells_at.result - 128) 0) c.cells_at.ensures;
-    } in
-    subst IsNode (sym (value_of-read page n c.told-bytes (header_parts page has.header) is)) (IsNode-value_in page has)
+unfolding node
+invariant_of-result c = subst IsNode (sym (value c)) (IsNode-value_in c.args.bytes.now (known_page c.args.bytes.now c.requires))
 
 pub returns : goal.returns
-returns c =
-    let page = c.args.bytes.now in
-    let has = known_page page c.requires in
-    let n : Inside = record { file = c.u16_at.result; index = c.u16_at-2.result; leaf = c.is_leaf.result; key_len = c.from-key_len.result; low = c.read_bound.result; high = c.read_bound-2.result; right = c.u64_at.result; count = c.from.result; cells = c.cells_of.result } in
-    let is : IsRead page n = record {
-      file = c.u16_at.ensures;
-      index = c.u16_at-2.ensures;
-      leaf = c.is_leaf.ensures;
-      key_len = c.from-key_len.ensures;
-      low = c.read_bound.ensures;
-      high = c.read_bound-2.ensures ∙ ap (λ at. bound_at c.from-key_len.result at page) c.high_at.ensures;
-      right = c.u64_at.ensures;
-      count = c.from.ensures ∙ c.u16_at-3.ensures;
-      rest = replicate (c.cells_at.result - 128) 0;
-      cells = c.cells_of.ensures ∙ ap (λ at. drop at page ++ replicate (c.cells_at.result - 128) 0) c.cells_at.ensures;
-    } in
-    ap Some (value_of-read page n c.told-bytes (header_parts page has.header) is) ∙ sym (node_in-is page (page_from_parts page has))
+unfolding node
+returns c = ap Some (value c) ∙ sym (node_in-is c.args.bytes.now (page_from_parts c.args.bytes.now (known_page c.args.bytes.now c.requires)))
