@@ -1,11 +1,12 @@
 //! A node: its bounds, its right link and its entries, and the edits of one.
 
-ghost use Rattle.std.specs.Prelude.{◌≡◌, ℕ, ◌≤◌, ◌<◌, ◌+◌, ◌*◌, ◌-◌, [], ◌++◌, length, take, drop, replicate, filter, slice_get, slice_index, false, true, nat_lt, if◌then◌else◌, Some, None, IsSome, IsTrue};
+ghost use Rattle.std.specs.Prelude.{◌≡◌, ℕ, ◌≤◌, ◌<◌, ◌+◌, ◌*◌, ◌-◌, [], ◌++◌, length, take, drop, replicate, filter, slice_get, slice_index, false, true, nat_lt, if◌then◌else◌, Some, None, IsSome, IfSome, IsTrue};
 ghost use Rattle.std.specs.List.{prefix_len};
 ghost use Rattle.std.specs.Option.{option_map_or};
 ghost use Rattle.std.specs.Ordering.{is_eq};
 ghost use Rattle.ct_definitions.specs.Pairs.{pair_cmp, with_pair};
 ghost use Rattle.ct_page.specs.declared.kind.PageKind.TheVariants.{Leaf, Inner};
+ghost use Rattle.ct_page.specs.Fields.{u64_at};
 ghost use Rattle.ct_page.specs.Headers.{has_fields};
 ghost use Rattle.ct_node.specs.Nodes.{IsNode, pairs_in, capacity_of, is_from, is_below, is_within, has_pair, with_entry, has_other_pair};
 ghost use Rattle.ct_node.specs.Cells.{cells_of, pair_at, with_bytes};
@@ -86,6 +87,7 @@ impl Node {
     /// The node of a page, or `None` where it is outside the grammar of nodes.
     pub fn from_page(bytes: &[u8; PAGE_SIZE]) -> Option<Node>
         ensures node { result ≡ node_in bytes.now }
+        ensures text { IfSome result (λ node. page_text (u64_at 8 bytes.now) node ≡ bytes.now) }
     {
         if !is_node_page(bytes) {
             return None;
@@ -96,7 +98,8 @@ impl Node {
     /// The node of a page that is known to be one.
     pub fn from_node_page(bytes: &[u8; PAGE_SIZE]) -> Node
         requires { IsSome (node_in bytes.now) }
-        ensures { Some result ≡ node_in bytes.now }
+        ensures node { Some result ≡ node_in bytes.now }
+        ensures text { page_text (u64_at 8 bytes.now) result ≡ bytes.now }
     {
         let key_len = usize::from(bytes[24]);
         Node {

@@ -1,10 +1,11 @@
 use Rattle.std.proofs.Common.{◌≡◌, ◌≤◌, ◌∙◌, ap, sym, arith, subst, drop, ◌++◌, ◌-◌, replicate, Some}
+use Rattle.ct_page.specs.Fields.{u64_at}
 use Rattle.ct_node.specs.Nodes.{IsNode}
 use Rattle.ct_node.specs.Stored.{value_of}
-use Rattle.ct_node.specs.Pages.{value_in, node_in, cells_at, bound_at}
+use Rattle.ct_node.specs.Pages.{value_in, node_in, cells_at, bound_at, page_text}
 use Rattle.ct_node.specs.declared.node.Node.TheInside.{Inside}
 use Rattle.ct_node.proofs.PageLemmas.{known_page, header_parts, page_from_parts, IsNode-value_in, node_in-is}
-use Rattle.ct_node.proofs.Readings.{IsRead, value_of-read}
+use Rattle.ct_node.proofs.Readings.{IsRead, value_of-read, page_text-value_in}
 use Rattle.ct_node.proofs.node.Node.from_node_page.Goals as goal
 
 pub high_at-requires : goal.high_at-requires
@@ -53,6 +54,12 @@ pub invariant_of-result : goal.invariant_of-result
 unfolding node
 invariant_of-result c = subst IsNode (sym (value c)) (IsNode-value_in c.args.bytes.now (known_page c.args.bytes.now c.requires))
 
-pub returns : goal.returns
+pub returns-clause-node : goal.returns-clause-node
 unfolding node
-returns c = ap Some (value c) ∙ sym (node_in-is c.args.bytes.now (page_from_parts c.args.bytes.now (known_page c.args.bytes.now c.requires)))
+returns-clause-node c = ap Some (value c) ∙ sym (node_in-is c.args.bytes.now (page_from_parts c.args.bytes.now (known_page c.args.bytes.now c.requires)))
+
+pub returns-clause-text : goal.returns-clause-text
+unfolding node
+returns-clause-text c =
+    let page = c.args.bytes.now in
+    ap (page_text (u64_at 8 page)) (value c) ∙ page_text-value_in page (record { len = c.told-bytes; bytes = c.fits-bytes }) (known_page page c.requires)
