@@ -8,6 +8,8 @@ mod cells;
 mod check;
 mod edge;
 mod node;
+#[cfg(test)]
+mod page_tests;
 mod pair;
 mod target;
 #[cfg(test)]
