@@ -4,4 +4,5 @@ pub mod Places
 pub mod Stored
 pub mod Halves
 pub mod Pages
+pub mod Roles
 pub use Rattle.ct_definitions.specs.Pairs

@@ -12,6 +12,7 @@ ghost use Rattle.ct_node.specs.Nodes.{IsNode, pairs_in, capacity_of, is_from, is
 ghost use Rattle.ct_node.specs.Cells.{cells_of, pair_at, with_bytes};
 ghost use Rattle.ct_node.specs.Places.{is_before, is_past, is_ahead, here, down, next_place};
 ghost use Rattle.ct_node.specs.Halves.{middle_of, upper_half, lower_half};
+ghost use Rattle.ct_node.specs.Roles.{begins_at_low};
 ghost use Rattle.ct_node.specs.Pages.{node_in, header_in, page_text};
 
 use crate::bounds::{cells_at, high_at, read_bound, write_bound};
@@ -19,7 +20,7 @@ use crate::cells::{
     cmp_at, copy_cells, count_before, insert_entry, page_at, remove_cell, width_of, write_at,
 };
 use crate::check::{is_leaf, is_node_page};
-use crate::edge::Edge;
+use crate::edge::{Edge, first_of};
 use crate::pair::Pair;
 use crate::target::{Place, Target};
 use ct_page::{HEADER_SIZE, Header, PAGE_SIZE, PageKind, u16_at, u64_at};
@@ -224,6 +225,17 @@ impl Node {
             return true;
         };
         high.cmp_pair(self.key_len, pair).is_gt()
+    }
+
+    /// Whether an inner node begins at its low bound, or at zeros where that is open. So it has an
+    /// entry. Of a leaf nothing is asked.
+    pub fn begins_at_low(&self) -> bool
+        ensures { result ≡ begins_at_low self.now }
+    {
+        if self.leaf || self.count == 0 {
+            return self.leaf;
+        }
+        first_of(self.low).is_at(self.cells.as_slice(), self.key_len)
     }
 
     /// Puts a pair into a leaf.
