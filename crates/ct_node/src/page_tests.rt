@@ -2,7 +2,6 @@
 
 use super::*;
 use ct_page::PAGE_SIZE;
-use std::process::Abort;
 
 /// A page with so many entries: keys of zeros, the numbers 0, 1, and so on, and pages below that are 0.
 fn page_of(kind: u8, key_len: u8, count: u16) -> [u8; PAGE_SIZE] {
@@ -12,7 +11,7 @@ fn page_of(kind: u8, key_len: u8, count: u16) -> [u8; PAGE_SIZE] {
     page[7] = count.to_le_bytes()[1];
     page[24] = key_len;
     let key_len = usize::from(key_len);
-    let width = if kind == 5 { key_len + 8 } else { key_len + 16 };
+    let width = key_len + 8 + 8 * usize::from(kind.saturating_sub(5));
     let mut number_at = 146 + 3 * key_len + 6;
     for number in 0..count {
         if number_at + 2 > PAGE_SIZE {
@@ -52,6 +51,10 @@ fn an_inner_node_has_its_pages_below(rt: HostRuntime) {
     page[167] = 1;
     let node = Node::from_page(&page).expect(&rt, "a node");
     assert_eq!(rt; node.next_place(&Target::First), Place::Down(258));
+    assert_eq!(rt; node.begins_at_low(), true);
+    page[165] = 1;
+    let other = Node::from_page(&page).expect(&rt, "a node");
+    assert_eq!(rt; other.begins_at_low(), false);
 }
 
 #[test]
