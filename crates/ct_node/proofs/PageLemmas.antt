@@ -1,26 +1,16 @@
 -- Pages of nodes: what the tests of the grammar say, and what the page of a node shows.
-use Rattle.std.proofs.Common.{◌≡◌, ◌≢◌, ℕ, zero, suc, ◌+◌, ◌-◌, ◌*◌, ◌/◌, ◌^◌, ◌<◌, ◌≤◌, Bool, true, false, ◌&&◌, ◌||◌, cond, eqb, leb, List, [], ◌∷◌, ◌++◌, length, get_or, take, drop, map, replicate, refl, sym, ap, ◌∙◌, arith, subst, Option, Some, None, IsTrue, IsSome}
-use Rattle.std.specs.List.{flat_map, list_all, AllPass}
+use Rattle.std.proofs.Common.{◌≡◌, ℕ, ◌+◌, ◌-◌, ◌*◌, ◌/◌, ◌≤◌, Bool, true, false, ◌&&◌, cond, leb, List, get_or, drop, refl, sym, ap, ◌∙◌, arith, subst, Some, None, IsSome}
+use Rattle.std.specs.List.{list_all}
 use Rattle.std.proofs.Math.Nat.{mul-le-mul_left, mul_comm}
 use Rattle.std.proofs.lemmas.Bool.{false≢true, and_parts, and_from, leb-true, le-leb}
-use Rattle.std.proofs.lemmas.List.{length-take-le, length-drop, length-append, drop-drop, drop_at, take_at, take_all, take-append-drop, length-replicate, length-map}
-use Rattle.std.proofs.lemmas.List.Sums.{AllPass-from_list_all, list_all-from_AllPass}
-use Rattle.ct_definitions.specs.Pairs.{Pair}
-use Rattle.ct_page.specs.declared.header.Header.{Header}
-use Rattle.ct_page.specs.declared.kind.PageKind.{PageKind}
-use Rattle.ct_page.specs.declared.kind.PageKind.TheVariants.{Unwritten, Leaf, Inner}
-use Rattle.ct_page.specs.Fields.{u16_at, u64_at, are_zero}
-use Rattle.ct_page.specs.Kinds.{number_of}
-use Rattle.ct_page.specs.Headers.{IsPage, has_header, has_fields, header_bytes, header_of}
-use Rattle.ct_page.proofs.HeaderLemmas.{written_is_read, written_is_in_grammar, fields_are}
-use Rattle.ct_page.proofs.Zeros.{are_zero-replicate}
-use Rattle.ct_node.specs.Nodes.{Entry, NodeValue, IsNode, pairs_in, width_of, capacity_of, is_within}
-use Rattle.ct_node.specs.Cells.{entries_of, entry_bytes}
-use Rattle.ct_node.specs.Pages.{is_node_kind, is_key_len, is_node_of_keys, is_leaf_in, key_len_in, high_at, cells_at, cells_end, is_bound, bound_at, value_in, rises, is_in_order, has_node_header, has_bounds, is_node_page, node_in, bound_bytes, IsFitting, header_in, room_in, page_text}
-use Rattle.ct_node.proofs.Rising.{IsAscending-rises, rises-IsAscending}
+use Rattle.std.proofs.lemmas.List.Sums.{AllPass-from_list_all}
+use Rattle.ct_page.specs.Fields.{u16_at, are_zero}
+use Rattle.ct_page.specs.Headers.{has_header}
+use Rattle.ct_node.specs.Nodes.{NodeValue, IsNode, pairs_in, width_of, capacity_of, is_within}
+use Rattle.ct_node.specs.Pages.{is_node_kind, is_key_len, is_node_of_keys, is_leaf_in, high_at, cells_at, cells_end, is_bound, bound_at, value_in, rises, is_in_order, has_node_header, has_bounds, is_node_page, node_in}
+use Rattle.ct_node.proofs.Rising.{IsAscending-rises}
 use Rattle.ct_node.proofs.Searches.{pairs_of}
 use Rattle.ct_node.proofs.Entries.{pairs-entries_of, length-entries_of, width_of-bounds}
-use Rattle.ct_node.proofs.Spellings.{length-bound_bytes, bound_at-bytes, is_bound-bytes}
 
 -- what a header in the grammar of nodes has
 pub record HasNodeHeader (page : List ℕ) : Type 0 where

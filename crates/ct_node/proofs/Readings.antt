@@ -1,5 +1,5 @@
 -- The node that is read from a page is what the page shows.
-use Rattle.std.proofs.Common.{◌≡◌, ℕ, ◌+◌, ◌-◌, ◌*◌, ◌≤◌, true, cond, eqb, List, ◌++◌, length, get_or, take, drop, replicate, Some, refl, sym, ap, subst, ◌∙◌, ⊎_elim, arith}
+use Rattle.std.proofs.Common.{◌≡◌, ℕ, ◌+◌, ◌*◌, ◌≤◌, true, cond, eqb, List, ◌++◌, length, get_or, take, drop, replicate, Some, refl, sym, ap, subst, ◌∙◌, ⊎_elim, arith}
 use Rattle.std.specs.Prelude.{option_map}
 use Rattle.std.specs.List.{flat_map}
 use Rattle.std.proofs.lemmas.Bool.{or_cases, eqb-true}
@@ -10,7 +10,7 @@ use Rattle.ct_page.specs.Kinds.{kind_of}
 use Rattle.ct_page.specs.Headers.{IsPage, header_bytes, header_of}
 use Rattle.ct_page.proofs.HeaderLemmas.{header_is, read_is_written}
 use Rattle.ct_page.proofs.Zeros.{zeros_are}
-use Rattle.ct_node.specs.Nodes.{NodeValue, width_of}
+use Rattle.ct_node.specs.Nodes.{width_of}
 use Rattle.ct_node.specs.Cells.{entries_of, entry_bytes}
 use Rattle.ct_node.specs.Stored.{value_of, edge_pair}
 use Rattle.ct_node.specs.Pages.{is_node_kind, is_leaf_in, high_at, cells_at, cells_end, bound_at, value_in, bound_bytes, header_in, room_in, page_text}

@@ -1,6 +1,6 @@
 -- The steps of a search by halves among cells in order.
-use Rattle.std.proofs.Common.{◌≡◌, ℕ, ◌+◌, ◌-◌, ◌*◌, ◌<◌, ◌≤◌, Bool, true, false, List, [], ◌∷◌, length, get_or, take, drop, map, refl, sym, ap, ◌∙◌, arith, subst, ⊎_elim, zero, suc, Option, Some, None}
-use Rattle.std.specs.List.{AllWithin, prefix_len}
+use Rattle.std.proofs.Common.{◌≡◌, ℕ, ◌+◌, ◌*◌, ◌<◌, ◌≤◌, Bool, true, false, List, [], ◌∷◌, length, get_or, take, drop, map, refl, sym, ap, ◌∙◌, arith, ⊎_elim, zero, suc, Some, None}
+use Rattle.std.specs.List.{AllWithin}
 use Rattle.std.specs.Prelude.{slice_get}
 use Rattle.std.specs.Int.{w64, from_be_bytes}
 use Rattle.std.proofs.lemmas.Bool.{cases_Bool, false≢true}

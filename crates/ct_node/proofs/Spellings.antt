@@ -1,17 +1,17 @@
 -- Bounds and entries are read back as they were written, and written as they were read.
-use Rattle.std.proofs.Common.{◌≡◌, ℕ, zero, suc, ◌+◌, ◌-◌, ◌*◌, ◌^◌, ◌<◌, ◌≤◌, Bool, true, false, ◌||◌, cond, eqb, List, [], ◌∷◌, ◌++◌, length, get_or, take, drop, map, replicate, refl, sym, ap, ◌∙◌, arith, subst, Option, Some, None, ⊎_elim, IsTrue}
+use Rattle.std.proofs.Common.{◌≡◌, ℕ, zero, suc, ◌+◌, ◌*◌, ◌<◌, ◌≤◌, Bool, true, false, ◌||◌, cond, eqb, List, ◌∷◌, ◌++◌, length, get_or, take, drop, map, replicate, refl, sym, ap, ◌∙◌, arith, subst, Option, Some, None, ⊎_elim}
 use Rattle.std.specs.List.{flat_map}
 use Rattle.std.specs.Int.{w64, from_be_bytes, to_be_bytes, from_le_bytes, to_le_bytes}
 use Rattle.std.proofs.Math.Seq.{take-add}
 use Rattle.std.proofs.lemmas.Bool.{or_cases, eqb-true}
 use Rattle.std.proofs.lemmas.Nat.{be_bytes_8, le_bytes_8}
-use Rattle.std.proofs.lemmas.List.{length-take-le, length-drop, length-append, get_or-drop, get_or-take, drop_more, drop-drop, take_all, take_at, append-nil, take-take, length-replicate}
+use Rattle.std.proofs.lemmas.List.{length-take-le, length-drop, length-append, get_or-drop, get_or-take, drop_more, drop-drop, take_all, take_at, append-nil, length-replicate}
 use Rattle.std.proofs.lemmas.List.Concat.{flat_map-cons}
 use Rattle.ct_definitions.specs.Pairs.{Pair}
 use Rattle.ct_page.specs.Fields.{are_zero}
 use Rattle.ct_page.proofs.Numbers.{bytes_of_front, bytes_of_part}
 use Rattle.ct_page.proofs.Zeros.{zeros_are, are_zero-replicate, are_zero-get_or}
-use Rattle.ct_node.specs.Nodes.{Entry, width_of}
+use Rattle.ct_node.specs.Nodes.{width_of}
 use Rattle.ct_node.specs.Cells.{cells_of, pair_at, entry_at, entries_of, pair_bytes, entry_bytes}
 use Rattle.ct_node.specs.Pages.{is_bound, bound_at, bound_bytes, IsFitting}
 use Rattle.ct_node.proofs.CellLemmas.{cells_of-front, length-cells_of}

@@ -1,22 +1,21 @@
 -- The page of a node, written part by part, shows the node.
-use Rattle.std.proofs.Common.{◌≡◌, ◌≢◌, ℕ, ◌+◌, ◌-◌, ◌*◌, ◌^◌, ◌<◌, ◌≤◌, Bool, true, false, ◌&&◌, ◌||◌, cond, eqb, leb, List, [], ◌∷◌, ◌++◌, length, get_or, take, drop, map, replicate, refl, sym, ap, ◌∙◌, arith, subst, Option, Some, None, IsTrue}
+use Rattle.std.proofs.Common.{◌≡◌, ◌≢◌, ℕ, ◌+◌, ◌-◌, ◌*◌, ◌≤◌, Bool, true, false, cond, eqb, List, ◌++◌, length, get_or, take, drop, replicate, refl, sym, ap, ◌∙◌, arith, subst, Some, IsTrue}
 use Rattle.std.specs.List.{flat_map, list_all}
-use Rattle.std.proofs.lemmas.List.{length-take-le, length-drop, length-append, drop-drop, drop_at, take_at, append_assoc, length-map}
+use Rattle.std.proofs.lemmas.List.{length-take-le, length-drop, length-append, drop-drop, drop_at, take_at, append_assoc}
 use Rattle.std.proofs.lemmas.List.Sums.{list_all-from_AllPass}
-use Rattle.ct_page.specs.declared.kind.PageKind.{PageKind}
 use Rattle.ct_page.specs.declared.kind.PageKind.TheVariants.{Unwritten, Leaf, Inner}
 use Rattle.ct_page.specs.Fields.{u16_at, are_zero}
 use Rattle.ct_page.specs.Kinds.{number_of}
 use Rattle.ct_page.specs.Headers.{has_header, has_fields, header_bytes, header_of}
 use Rattle.ct_page.proofs.HeaderLemmas.{written_is_read, written_is_in_grammar, fields_are}
 use Rattle.ct_page.proofs.Zeros.{are_zero-replicate}
-use Rattle.ct_node.specs.Nodes.{Entry, NodeValue, IsNode, pairs_in, width_of, capacity_of, is_within}
+use Rattle.ct_node.specs.Nodes.{NodeValue, IsNode, pairs_in, width_of, capacity_of, is_within}
 use Rattle.ct_page.specs.declared.header.Header.{Header}
 use Rattle.ct_node.specs.Cells.{entries_of, entry_bytes, with_bytes}
 use Rattle.ct_node.specs.Stored.{value_of}
 use Rattle.ct_node.specs.declared.node.Node.TheInside.{Inside}
 use Rattle.ct_node.proofs.Entries.{length-entries_of}
-use Rattle.ct_node.specs.Pages.{is_node_kind, is_leaf_in, high_at, cells_at, cells_end, is_bound, bound_at, value_in, rises, is_node_page, node_in, bound_bytes, IsFitting, header_in, room_in, page_text}
+use Rattle.ct_node.specs.Pages.{is_node_kind, is_leaf_in, high_at, cells_at, cells_end, is_bound, bound_at, value_in, rises, node_in, bound_bytes, IsFitting, header_in, room_in, page_text}
 use Rattle.ct_node.proofs.Rising.{rises-IsAscending}
 use Rattle.ct_node.proofs.Spellings.{AreBytes, entries_bytes, entries_of-same, length-bound_bytes, bound_at-bytes, is_bound-bytes}
 use Rattle.ct_node.proofs.PageLemmas.{room_behind, HasNodeHeader, HasParts, header_from_parts, page_from_parts, node_in-is, same_node}

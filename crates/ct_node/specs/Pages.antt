@@ -7,7 +7,7 @@ use Rattle.ct_page.specs.declared.header.Header.{Header}
 use Rattle.ct_page.specs.declared.kind.PageKind.TheVariants.{Leaf, Inner}
 use Rattle.ct_page.specs.Fields.{u16_at, u64_at, are_zero}
 use Rattle.ct_page.specs.Headers.{has_header, header_bytes}
-use Rattle.ct_node.specs.Nodes.{Entry, NodeValue, pairs_in, width_of, capacity_of, is_within}
+use Rattle.ct_node.specs.Nodes.{NodeValue, pairs_in, width_of, capacity_of, is_within}
 use Rattle.ct_node.specs.Cells.{pair_at, entries_of, pair_bytes, entry_bytes}
 
 -- whether the kind of a page is that of a node: a leaf, or an inner node

@@ -1,4 +1,4 @@
-use Rattle.std.proofs.Common.{◌≡◌, ◌+◌, [], ◌∷◌, ◌++◌, length, take, ap, sym, subst, ◌∙◌, arith}
+use Rattle.std.proofs.Common.{◌≡◌, ◌+◌, [], ◌∷◌, ◌++◌, length, take, ap, sym, ◌∙◌, arith}
 use Rattle.ct_node.specs.Cells.{with_bytes}
 use Rattle.ct_node.proofs.CellLemmas.{with_bytes-both}
 use Rattle.ct_node.proofs.bounds.write_edge.Goals as goal

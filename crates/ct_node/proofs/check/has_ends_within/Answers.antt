@@ -1,6 +1,5 @@
 use Rattle.std.proofs.Common.{◌≡◌, ◌≤◌, ◌<◌, ◌+◌, ◌-◌, ◌*◌, ◌&&◌, ℕ, Bool, true, false, List, drop, get_or, length, refl, ap, sym, ◌∙◌, arith}
 use Rattle.std.specs.List.{list_all}
-use Rattle.ct_definitions.specs.Pairs.{Pair}
 use Rattle.ct_node.specs.Nodes.{is_from, is_below, is_within}
 use Rattle.ct_node.specs.Cells.{pair_at}
 use Rattle.ct_node.specs.Pages.{bound_at, high_at, rises}

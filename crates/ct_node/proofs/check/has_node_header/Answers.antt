@@ -1,7 +1,7 @@
-use Rattle.std.proofs.Common.{◌≡◌, ◌&&◌, leb, ap, sym, ◌∙◌, get_or}
+use Rattle.std.proofs.Common.{◌&&◌, leb, ap, sym, ◌∙◌, get_or}
 use Rattle.ct_page.specs.Fields.{u16_at}
 use Rattle.ct_node.specs.Nodes.{capacity_of}
-use Rattle.ct_node.specs.Pages.{is_leaf_in, is_node_of_keys, has_node_header}
+use Rattle.ct_node.specs.Pages.{is_leaf_in, has_node_header}
 use Rattle.ct_node.proofs.check.has_node_header.Goals as goal
 
 pub returns-then-not-is_node_of_keys : goal.returns-then-not-is_node_of_keys

@@ -1,4 +1,4 @@
-use Rattle.std.proofs.Common.{◌≡◌, ◌≤◌, sym, ◌∙◌, arith}
+use Rattle.std.proofs.Common.{sym, ◌∙◌, arith}
 use Rattle.ct_node.proofs.PageLemmas.{header_parts, body_within, is_node_page-body, is_node_page-without}
 use Rattle.ct_node.proofs.check.is_node_page.Goals as goal
 

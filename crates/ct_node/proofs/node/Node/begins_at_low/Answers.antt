@@ -1,9 +1,9 @@
-use Rattle.std.proofs.Common.{◌≡◌, ◌<◌, ◌≤◌, ◌*◌, ◌||◌, ◌∙◌, ℕ, Bool, false, List, Some, ap, sym, drop, arith}
+use Rattle.std.proofs.Common.{◌≡◌, ◌<◌, ◌*◌, ◌||◌, ◌∙◌, ℕ, Bool, false, List, Some, ap, sym, drop, arith}
 use Rattle.std.specs.Prelude.{slice_get}
 use Rattle.std.specs.Option.{option_map_or}
 use Rattle.std.specs.Ordering.{is_eq}
 use Rattle.ct_definitions.specs.Pairs.{Pair, pair_cmp}
-use Rattle.ct_node.specs.Nodes.{NodeValue, pairs_in, width_of}
+use Rattle.ct_node.specs.Nodes.{pairs_in, width_of}
 use Rattle.ct_node.specs.Cells.{pair_at}
 use Rattle.ct_node.specs.Stored.{value_of}
 use Rattle.ct_node.specs.Roles.{first_of, begins_at_low}

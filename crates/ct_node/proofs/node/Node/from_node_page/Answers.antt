@@ -1,8 +1,8 @@
-use Rattle.std.proofs.Common.{◌≡◌, ◌≤◌, ◌∙◌, ap, sym, arith, subst, drop, ◌++◌, ◌-◌, replicate, Some}
+use Rattle.std.proofs.Common.{◌≡◌, ◌∙◌, ap, sym, arith, subst, drop, ◌++◌, ◌-◌, replicate, Some}
 use Rattle.ct_page.specs.Fields.{u64_at}
 use Rattle.ct_node.specs.Nodes.{IsNode}
 use Rattle.ct_node.specs.Stored.{value_of}
-use Rattle.ct_node.specs.Pages.{value_in, node_in, cells_at, bound_at, page_text}
+use Rattle.ct_node.specs.Pages.{value_in, bound_at, page_text}
 use Rattle.ct_node.specs.declared.node.Node.TheInside.{Inside}
 use Rattle.ct_node.proofs.PageLemmas.{known_page, header_parts, page_from_parts, IsNode-value_in, node_in-is}
 use Rattle.ct_node.proofs.Readings.{IsRead, value_of-read, page_text-value_in}

@@ -1,4 +1,4 @@
-use Rattle.std.proofs.Common.{◌≡◌, ◌<◌, cond, ap, sym, ◌∙◌, arith}
+use Rattle.std.proofs.Common.{cond, ap, sym, ◌∙◌, arith}
 use Rattle.ct_page.specs.declared.header.Header.{Header}
 use Rattle.ct_page.specs.declared.kind.PageKind.TheVariants.{Leaf, Inner}
 use Rattle.ct_node.specs.Pages.{header_in}

@@ -1,4 +1,4 @@
-use Rattle.std.proofs.Common.{◌≡◌, ◌≤◌, ◌+◌, ◌*◌, ap, sym, ◌∙◌, arith, subst, Some, IsTrue}
+use Rattle.std.proofs.Common.{ap, sym, ◌∙◌, arith, subst, Some, IsTrue}
 use Rattle.ct_page.specs.Headers.{has_fields}
 use Rattle.ct_node.specs.Nodes.{NodeValue}
 use Rattle.ct_node.specs.Pages.{header_in, page_text}
