@@ -10,3 +10,4 @@ pub mod Spellings
 pub mod PageLemmas
 pub mod Readings
 pub mod Writings
+pub mod Repositions

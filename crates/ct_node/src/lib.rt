@@ -7,6 +7,7 @@ mod bounds;
 mod cells;
 mod check;
 mod edge;
+mod laws;
 mod node;
 #[cfg(test)]
 mod page_tests;
@@ -15,6 +16,7 @@ mod target;
 #[cfg(test)]
 mod tests;
 
+pub use laws::positions_keep_nodes;
 pub use node::Node;
 pub use pair::Pair;
 pub use target::{Place, Target};

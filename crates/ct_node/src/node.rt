@@ -112,7 +112,7 @@ impl Node {
             high: read_bound(bytes, high_at(key_len), key_len),
             right: u64_at(bytes, 16),
             count: usize::from(u16_at(bytes, 6)),
-            cells: cells_of(bytes, cells_at(key_len)),
+            cells: cells_from(bytes, cells_at(key_len)),
         }
     }
 
@@ -483,7 +483,7 @@ fn header_of(
 }
 
 /// The bytes of a page from a place on, and zeros behind them.
-fn cells_of(page: &[u8; PAGE_SIZE], at: usize) -> [u8; BODY]
+fn cells_from(page: &[u8; PAGE_SIZE], at: usize) -> [u8; BODY]
     requires behind { 128 ≤ at }
     requires within { at ≤ 4096 }
     ensures { result ≡ drop at page.now ++ replicate (at - 128) 0 }

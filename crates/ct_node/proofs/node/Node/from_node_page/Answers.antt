@@ -29,10 +29,10 @@ read_bound-requires-2-clause-key c =
     omega (arith, c.from-key_len.ensures)
 
 -- the fields that were read
-node : goal.After-cells_of → Inside
-node c = record { file = c.u16_at.result; index = c.u16_at-2.result; leaf = c.is_leaf.result; key_len = c.from-key_len.result; low = c.read_bound.result; high = c.read_bound-2.result; right = c.u64_at.result; count = c.from.result; cells = c.cells_of.result }
+node : goal.After-cells_from → Inside
+node c = record { file = c.u16_at.result; index = c.u16_at-2.result; leaf = c.is_leaf.result; key_len = c.from-key_len.result; low = c.read_bound.result; high = c.read_bound-2.result; right = c.u64_at.result; count = c.from.result; cells = c.cells_from.result }
 
-read : (c : goal.After-cells_of) → IsRead c.args.bytes.now (node c)
+read : (c : goal.After-cells_from) → IsRead c.args.bytes.now (node c)
 unfolding node
 read c = record {
   file = c.u16_at.ensures;
@@ -44,10 +44,10 @@ read c = record {
   right = c.u64_at.ensures;
   count = c.from.ensures ∙ c.u16_at-3.ensures;
   rest = replicate (c.cells_at.result - 128) 0;
-  cells = c.cells_of.ensures ∙ ap (λ at. drop at c.args.bytes.now ++ replicate (c.cells_at.result - 128) 0) c.cells_at.ensures;
+  cells = c.cells_from.ensures ∙ ap (λ at. drop at c.args.bytes.now ++ replicate (c.cells_at.result - 128) 0) c.cells_at.ensures;
 }
 
-value : (c : goal.After-cells_of) → value_of (node c) ≡ value_in c.args.bytes.now
+value : (c : goal.After-cells_from) → value_of (node c) ≡ value_in c.args.bytes.now
 value c = value_of-read c.args.bytes.now (node c) c.told-bytes (header_parts c.args.bytes.now (known_page c.args.bytes.now c.requires).header) (read c)
 
 pub invariant_of-result : goal.invariant_of-result

@@ -1,6 +1,6 @@
 use Rattle.std.proofs.Common.{◌≡◌, ◌-◌, ◌++◌, take, drop, replicate, ap, ◌∙◌, arith}
 use Rattle.std.proofs.lemmas.List.{take_all, length-drop, drop-replicate}
-use Rattle.ct_node.proofs.node.cells_of.Goals as goal
+use Rattle.ct_node.proofs.node.cells_from.Goals as goal
 
 pub returns : goal.returns
 returns c =
