@@ -1,5 +1,5 @@
 -- The node that is read from a page is what the page shows.
-use Rattle.std.proofs.Common.{◌≡◌, ℕ, ◌+◌, ◌*◌, ◌≤◌, true, cond, eqb, List, ◌++◌, length, get_or, take, drop, replicate, Some, refl, sym, ap, subst, ◌∙◌, ⊎_elim, arith}
+use Rattle.std.proofs.Common.{◌≡◌, ℕ, ◌+◌, ◌*◌, ◌≤◌, Bool, true, false, cond, eqb, List, ◌++◌, length, get_or, take, drop, replicate, Some, None, refl, sym, ap, subst, ◌∙◌, ⊎_elim, arith}
 use Rattle.std.specs.Prelude.{option_map}
 use Rattle.std.specs.List.{flat_map}
 use Rattle.std.proofs.lemmas.Bool.{or_cases, eqb-true}
@@ -10,14 +10,14 @@ use Rattle.ct_page.specs.Kinds.{kind_of}
 use Rattle.ct_page.specs.Headers.{IsPage, header_bytes, header_of}
 use Rattle.ct_page.proofs.HeaderLemmas.{header_is, read_is_written}
 use Rattle.ct_page.proofs.Zeros.{zeros_are}
-use Rattle.ct_node.specs.Nodes.{width_of}
+use Rattle.ct_node.specs.Nodes.{NodeValue, IsNode, width_of}
 use Rattle.ct_node.specs.Cells.{entries_of, entry_bytes}
 use Rattle.ct_node.specs.Stored.{value_of, edge_pair}
-use Rattle.ct_node.specs.Pages.{is_node_kind, is_leaf_in, high_at, cells_at, cells_end, bound_at, value_in, bound_bytes, header_in, room_in, page_text}
+use Rattle.ct_node.specs.Pages.{is_node_kind, is_leaf_in, high_at, cells_at, cells_end, bound_at, value_in, bound_bytes, header_in, room_in, page_text, is_node_page, node_in}
 use Rattle.ct_node.specs.declared.node.Node.TheInside.{Inside}
 use Rattle.ct_node.proofs.Entries.{length-entries_of}
 use Rattle.ct_node.proofs.Spellings.{AreBytes-drop, entries_of-same, entries_bytes, bound_bytes-at}
-use Rattle.ct_node.proofs.PageLemmas.{HasNodeHeader, HasParts, header_parts, end_within, body_within, same_node}
+use Rattle.ct_node.proofs.PageLemmas.{page_parts, IsNode-value_in, HasNodeHeader, HasParts, header_parts, end_within, body_within, same_node}
 
 -- the fields of a node that was read from a page
 pub record IsRead (page : List ℕ) (n : Inside) : Type 0 where
@@ -117,3 +117,18 @@ page_text-value_in page is has =
     (entries_bytes key_len leaf (u16_at 6 page) (drop (cells_at key_len) page) (AreBytes-drop (cells_at key_len) page is.bytes) (omega arith))
     (zeros_read page is.len header has.zeros))
     ∙ read_is_written page shown is header.grammar told
+
+-- a page that shows a node is in the grammar, and shows that one
+shows : (is : Bool) (value node : NodeValue) → cond is (Some value) None ≡ Some node → (is ≡ true) × (value ≡ node)
+shows true value node told = (refl, cc)
+shows false value node told = absurd cc
+
+pub IsNode-node_in : (page : List ℕ) (node : NodeValue) → node_in page ≡ Some node → IsNode node
+IsNode-node_in page node told =
+    let shown = shows (is_node_page page) (value_in page) node told in
+    subst IsNode shown.1 (IsNode-value_in page (page_parts page shown.0))
+
+pub page_text-node_in : (page : List ℕ) (node : NodeValue) → IsPage page → node_in page ≡ Some node → page_text (u64_at 8 page) node ≡ page
+page_text-node_in page node is told =
+    let shown = shows (is_node_page page) (value_in page) node told in
+    ap (page_text (u64_at 8 page)) (sym shown.1) ∙ page_text-value_in page is (page_parts page shown.0)

@@ -1,9 +1,9 @@
 -- A page with another position shows the same node.
-use Rattle.std.proofs.Common.{◌≡◌, ◌≢◌, ℕ, ◌+◌, ◌-◌, ◌*◌, ◌≤◌, Bool, true, false, ◌&&◌, ◌||◌, cond, eqb, leb, List, ◌++◌, length, get_or, take, drop, Option, Some, None, refl, sym, ap, ◌∙◌, ⊎_elim, inl, inr, arith}
+use Rattle.std.proofs.Common.{◌≡◌, ◌≢◌, ℕ, ◌+◌, ◌-◌, ◌*◌, ◌≤◌, true, false, ◌&&◌, ◌||◌, cond, eqb, leb, List, get_or, take, drop, Some, None, refl, sym, ap, ◌∙◌, ⊎_elim, inl, inr, arith}
 use Rattle.std.proofs.lemmas.Bool.{false≢true, cases_Bool, and_right}
 use Rattle.std.proofs.lemmas.List.{get_or-drop, drop-drop}
 use Rattle.ct_page.specs.Fields.{u16_at, u64_at, with_u64, are_zero}
-use Rattle.ct_page.specs.Headers.{IsPage, has_header, header_bytes, with_position}
+use Rattle.ct_page.specs.Headers.{IsPage, has_header, with_position}
 use Rattle.ct_page.proofs.Numbers.{u16_at-with_u64_apart, u64_at-with_u64_apart}
 use Rattle.ct_page.proofs.Positions.{behind_kept, byte_kept, grammar_kept}
 use Rattle.ct_node.specs.Nodes.{NodeValue, width_of, capacity_of}

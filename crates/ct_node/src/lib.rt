@@ -16,7 +16,7 @@ mod target;
 #[cfg(test)]
 mod tests;
 
-pub use laws::positions_keep_nodes;
+pub use laws::{node_pages_are_exact, positions_keep_nodes};
 pub use node::Node;
 pub use pair::Pair;
 pub use target::{Place, Target};
