@@ -1,10 +1,10 @@
 -- Cells side by side: what an edit of their bytes does to their list.
-use Rattle.std.proofs.Common.{◌≡◌, ℕ, zero, suc, ◌+◌, ◌-◌, ◌*◌, ◌<◌, ◌≤◌, Bool, true, false, cond, List, [], ◌∷◌, ◌++◌, length, get_or, take, drop, map, refl, sym, ap, ◌∙◌, arith, append_assoc, inl, inr, ⊎_elim, ◌⊎◌}
+use Rattle.std.proofs.Common.{◌≡◌, ℕ, zero, suc, ◌+◌, ◌-◌, ◌*◌, ◌<◌, ◌≤◌, List, ◌++◌, length, get_or, take, drop, refl, sym, ap, ◌∙◌, arith, append_assoc, inl, inr, ⊎_elim, ◌⊎◌}
 use Rattle.std.specs.List.{insert, remove}
 use Rattle.std.proofs.Math.Nat.{mul-le-mul_right}
 use Rattle.std.proofs.lemmas.Bool.{cases_lt}
 use Rattle.std.proofs.lemmas.List.Edits.{length-insert, get_or-insert_below, get_or-insert_at, get_or-insert_above, length-remove, get_or-remove_below, get_or-remove_above}
-use Rattle.std.proofs.lemmas.List.{same_lists, length-take, length-drop, length-append, length-take-le, get_or-take, get_or-drop, take-append-drop, take_at, drop_at, take-append-le, drop-append-le, drop-drop, take-take, take_all, append-nil, drop-take, nil_from_length}
+use Rattle.std.proofs.lemmas.List.{same_lists, length-drop, length-append, length-take-le, get_or-take, get_or-drop, take_at, drop_at, take-append-le, drop-append-le, drop-drop, take-take, drop-take}
 use Rattle.ct_node.specs.Cells.{cells_of, with_bytes}
 
 pub length-cells_of : (width count : ℕ) (bytes : List ℕ) → length (cells_of width count bytes) ≡ count

@@ -1,8 +1,9 @@
 -- What the edits of a node's cells do to its entries, and that it stays a node.
-use Rattle.std.proofs.Common.{◌≡◌, ℕ, suc, ◌+◌, ◌-◌, ◌*◌, ◌^◌, ◌<◌, ◌≤◌, Bool, true, false, cond, List, [], ◌∷◌, ◌++◌, length, get_or, take, drop, map, filter, not, refl, sym, ap, ◌∙◌, arith, subst, Option, Some, None, zero}
+use Rattle.std.proofs.Math.Nat.{mul-le-mul_left}
+use Rattle.std.proofs.Common.{◌≡◌, ℕ, suc, ◌+◌, ◌-◌, ◌*◌, ◌^◌, ◌<◌, ◌≤◌, Bool, true, false, cond, List, [], ◌∷◌, length, drop, map, filter, refl, sym, ap, ◌∙◌, arith, subst, zero}
 use Rattle.std.specs.Prelude.{slice_get}
 use Rattle.std.specs.Option.{option_map_or}
-use Rattle.std.specs.List.{All, AllPass, insert, remove, prefix_len}
+use Rattle.std.specs.List.{AllPass, insert, remove, prefix_len}
 use Rattle.std.proofs.lemmas.List.{length-map}
 use Rattle.std.proofs.lemmas.List.Elements.{All-filter}
 use Rattle.ct_definitions.specs.Pairs.{Pair, with_pair}
@@ -88,6 +89,14 @@ pairs_ascend n width slice is is_width is_slice =
 -- a node's cells stand in its bytes
 pub cells_within : (n : Inside) → IsNode (value_of n) → n.count * width_of n.key_len n.leaf ≤ 3968
 cells_within n is = room_within n.key_len n.leaf n.count (let count = length-entries_of n.key_len n.leaf n.count n.cells in omega (arith, is.room))
+
+-- so there are few of them
+pub few_entries : (n : Inside) → IsNode (value_of n) → n.count ≤ 496
+few_entries n is =
+    let within = cells_within n is in
+    let bounds = width_of-bounds n.key_len n.leaf in
+    let least : n.count * 8 ≤ n.count * width_of n.key_len n.leaf = mul-le-mul_left n.count (omega arith) in
+    omega arith
 
 -- and one more does, where it fits
 pub next_within : (n : Inside) → length (value_of n).entries < capacity_of n.key_len n.leaf → n.count * width_of n.key_len n.leaf + width_of n.key_len n.leaf ≤ 3968

@@ -1,10 +1,10 @@
 -- Entries in cells: read back as written, and as many as there is room for.
-use Rattle.std.proofs.Common.{◌≡◌, ℕ, suc, ◌+◌, ◌-◌, ◌*◌, ◌/◌, ◌^◌, ◌<◌, ◌≤◌, Bool, true, false, cond, List, [], ◌∷◌, ◌++◌, length, get_or, take, drop, map, refl, sym, ap, ◌∙◌, arith}
+use Rattle.std.proofs.Common.{◌≡◌, ℕ, suc, ◌+◌, ◌-◌, ◌*◌, ◌/◌, ◌^◌, ◌<◌, ◌≤◌, Bool, true, false, cond, List, [], ◌∷◌, ◌++◌, length, take, drop, map, refl, sym, ap, ◌∙◌, arith}
 use Rattle.std.specs.List.{insert, remove}
 use Rattle.std.specs.Int.{w64, from_be_bytes, to_be_bytes, from_le_bytes, to_le_bytes}
 use Rattle.std.proofs.Math.Nat.{mul-le-mul_left, mul_comm}
 use Rattle.std.proofs.lemmas.Nat.{from_be_bytes-to_be_bytes_8, from_le_bytes-to_le_bytes_8}
-use Rattle.std.proofs.lemmas.List.{length-map, map-append, take-map, drop-map, take_at, drop_at, append_assoc, length-append, append-nil, take_all}
+use Rattle.std.proofs.lemmas.List.{length-map, map-append, take-map, drop-map, take_at, drop_at, append_assoc, length-append, take_all}
 use Rattle.ct_definitions.specs.Pairs.{Pair}
 use Rattle.ct_node.specs.Nodes.{Entry, pair_in, width_of, capacity_of}
 use Rattle.ct_node.specs.Cells.{cells_of, pair_at, entry_at, entries_of, pair_bytes, entry_bytes}
@@ -62,7 +62,7 @@ length-entry_bytes false entry =
 abbrev pub entry_in : Bool → Pair → ℕ → Entry
 entry_in leaf pair child = record { pair = pair; child = cond leaf 0 child }
 
-pair_at-bytes : (key_len : ℕ) (pair : Pair) (rest : List ℕ) → length pair.key ≡ key_len → pair.num < 2 ^ 64 → pair_at key_len (pair_bytes pair ++ rest) ≡ pair
+pub pair_at-bytes : (key_len : ℕ) (pair : Pair) (rest : List ℕ) → length pair.key ≡ key_len → pair.num < 2 ^ 64 → pair_at key_len (pair_bytes pair ++ rest) ≡ pair
 pair_at-bytes key_len pair rest long small =
     let whole : pair_bytes pair ++ rest ≡ pair.key ++ (to_be_bytes w64 pair.num ++ rest) = append_assoc pair.key (to_be_bytes w64 pair.num) rest in
     let key : take key_len (pair_bytes pair ++ rest) ≡ pair.key = ap (take key_len) whole ∙ take_at pair.key (to_be_bytes w64 pair.num ++ rest) key_len long in

@@ -1,13 +1,13 @@
 -- The two halves of a node: both are nodes, and their bounds meet at the middle pair.
-use Rattle.std.proofs.Common.{◌≡◌, ℕ, zero, suc, ◌+◌, ◌-◌, ◌*◌, ◌/◌, ◌<◌, ◌≤◌, Bool, true, false, not, ◌&&◌, List, [], ◌∷◌, ◌++◌, length, get_or, take, drop, map, refl, sym, ap, ◌∙◌, arith, subst, Option, Some, None, ⊎_elim}
+use Rattle.std.proofs.Common.{◌≡◌, ℕ, ◌+◌, ◌-◌, ◌*◌, ◌/◌, ◌<◌, ◌≤◌, true, false, not, List, ◌++◌, length, get_or, take, drop, map, refl, sym, ap, ◌∙◌, arith, subst, Option, Some, ⊎_elim}
 use Rattle.std.specs.Prelude.{slice_get}
-use Rattle.std.specs.List.{AllPass, AllPairs}
+use Rattle.std.specs.List.{AllPass}
 use Rattle.std.specs.Ordering.{is_lt}
 use Rattle.std.proofs.Math.Nat.{mul-le-mul_right}
 use Rattle.std.proofs.lemmas.Bool.{and_parts, and_from, cases_eq}
 use Rattle.std.proofs.lemmas.Cmp.{tied_itself}
-use Rattle.std.proofs.lemmas.List.{length-map, length-take, length-take-le, length-drop, get_or-take, get_or-drop, take-map, drop-map, take-append-drop, get_or-map}
-use Rattle.ct_definitions.specs.Pairs.{Pair, pair_cmp}
+use Rattle.std.proofs.lemmas.List.{length-map, length-take-le, length-drop, get_or-take, get_or-drop, take-map, drop-map}
+use Rattle.ct_definitions.specs.Pairs.{Pair}
 use Rattle.ct_node.specs.Nodes.{Entry, NodeValue, IsNode, IsAscending, pair_in, pairs_in, width_of, is_from, is_below, is_within}
 use Rattle.ct_node.specs.Halves.{middle_of, upper_half, lower_half}
 use Rattle.ct_node.specs.Cells.{cells_of, pair_at, entry_at, entries_of}
@@ -16,8 +16,8 @@ use Rattle.ct_node.specs.declared.edge.Edge.{Edge}
 use Rattle.ct_node.specs.declared.node.Node.TheInside.{Inside}
 use Rattle.ct_node.proofs.Orders.{below, pair_total, not_above}
 use Rattle.ct_node.proofs.CellLemmas.{cells_of-front, cells_of-back, step_within}
-use Rattle.ct_node.proofs.Searches.{pairs_of, length-pairs_of, get_or-pairs_of, slice_get-at}
-use Rattle.ct_node.proofs.Entries.{pairs-entries_of, length-entries_of, width_of-bounds, room_within}
+use Rattle.ct_node.proofs.Searches.{get_or-pairs_of, slice_get-at}
+use Rattle.ct_node.proofs.Entries.{pairs-entries_of, length-entries_of, width_of-bounds}
 use Rattle.ct_node.proofs.Edits.{cells_within}
 
 -- a pair is not below itself

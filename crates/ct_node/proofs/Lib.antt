@@ -5,3 +5,9 @@ pub mod Entries
 pub mod Edits
 pub mod HalfLemmas
 pub mod Walks
+pub mod Rising
+pub mod Spellings
+pub mod PageLemmas
+pub mod Readings
+pub mod Writings
+pub mod Repositions

@@ -1,10 +1,10 @@
 -- The steps of a search by halves among cells in order.
-use Rattle.std.proofs.Common.{◌≡◌, ℕ, ◌+◌, ◌-◌, ◌*◌, ◌<◌, ◌≤◌, Bool, true, false, List, [], ◌∷◌, length, get_or, take, drop, map, refl, sym, ap, ◌∙◌, arith, subst, ⊎_elim, zero, suc, Option, Some, None}
-use Rattle.std.specs.List.{AllWithin, prefix_len}
+use Rattle.std.proofs.Common.{◌≡◌, ℕ, ◌+◌, ◌*◌, ◌<◌, ◌≤◌, Bool, true, false, List, [], ◌∷◌, length, get_or, take, drop, map, refl, sym, ap, ◌∙◌, arith, ⊎_elim, zero, suc, Some, None}
+use Rattle.std.specs.List.{AllWithin}
 use Rattle.std.specs.Prelude.{slice_get}
 use Rattle.std.specs.Int.{w64, from_be_bytes}
 use Rattle.std.proofs.lemmas.Bool.{cases_Bool, false≢true}
-use Rattle.std.proofs.lemmas.List.{get_or-map, length-map, take-take}
+use Rattle.std.proofs.lemmas.List.{get_or-map, length-map, take-take, drop-drop}
 use Rattle.ct_definitions.specs.Pairs.{Pair}
 use Rattle.ct_node.specs.Nodes.{IsAscending}
 use Rattle.ct_node.specs.Cells.{cells_of, pair_at}
@@ -57,3 +57,8 @@ slice_get-past (x ∷ xs) (suc i) past = slice_get-past xs i (omega arith)
 pub slice_get-cells_of : (width count : ℕ) (bytes : List ℕ) (i : ℕ) → i < count → slice_get (cells_of width count bytes) i ≡ Some (take width (drop (i * width) bytes))
 slice_get-cells_of width count bytes i within =
     slice_get-at (cells_of width count bytes) i [] (omega (arith, length-cells_of width count bytes)) ∙ ap Some (get_or-cells_of width count bytes i [] within)
+
+-- the pair of a cell, by its place in the page
+pub get_or-pairs_in_page : (key_len width count at : ℕ) (page : List ℕ) (i : ℕ) (d : Pair) → key_len + 8 ≤ width → i < count → get_or (pairs_of key_len width count (drop at page)) i d ≡ pair_at key_len (drop (at + i * width) page)
+get_or-pairs_in_page key_len width count at page i d fits within =
+    get_or-pairs_of key_len width count (drop at page) i d fits within ∙ ap (pair_at key_len) (drop-drop (i * width) at page)

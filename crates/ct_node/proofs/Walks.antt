@@ -1,21 +1,19 @@
 -- What the cells of a node tell a walk.
-use Rattle.std.proofs.Common.{◌≡◌, ℕ, ◌+◌, ◌*◌, ◌<◌, ◌≤◌, Bool, false, cond, List, [], length, take, drop, sym, ap, ◌∙◌, arith, Some}
+use Rattle.std.proofs.Common.{◌≡◌, ℕ, ◌+◌, ◌*◌, ◌<◌, Bool, false, cond, List, [], take, drop, sym, ap, ◌∙◌, arith, Some}
 use Rattle.std.specs.Prelude.{slice_get}
 use Rattle.std.specs.List.{prefix_len}
 use Rattle.std.specs.Int.{w64, from_le_bytes}
-use Rattle.std.proofs.lemmas.List.{drop-drop, length-map, get_or-map}
+use Rattle.std.proofs.lemmas.List.{drop-drop, get_or-map}
 use Rattle.ct_definitions.specs.Pairs.{Pair}
-use Rattle.ct_node.specs.Nodes.{Entry, pairs_in, width_of, IsNode}
-use Rattle.ct_node.specs.Cells.{cells_of, pair_at, entry_at, entries_of}
+use Rattle.ct_node.specs.Nodes.{pairs_in, width_of}
+use Rattle.ct_node.specs.Cells.{cells_of, entry_at}
 use Rattle.ct_node.specs.Places.{is_before, down}
-use Rattle.ct_node.specs.declared.target.Place.{Place}
 use Rattle.ct_node.specs.declared.target.Place.TheVariants.{Down}
 use Rattle.ct_node.specs.Stored.{value_of}
 use Rattle.ct_node.specs.declared.node.Node.TheInside.{Inside}
-use Rattle.ct_node.proofs.CellLemmas.{window-take, length-cells_of, get_or-cells_of, step_within}
+use Rattle.ct_node.proofs.CellLemmas.{window-take, length-cells_of, get_or-cells_of}
 use Rattle.ct_node.proofs.Searches.{pairs_of, slice_get-at}
 use Rattle.ct_node.proofs.Entries.{pairs-entries_of, length-entries_of}
-use Rattle.ct_node.proofs.Edits.{cells_within}
 
 -- the pairs before another are told by the cells
 pub count_before-is : (n : Inside) (or_at : Bool) (pair : Pair) (at width : ℕ) (slice : List ℕ) → at ≡ prefix_len (is_before or_at pair) (pairs_of n.key_len width n.count slice) → width ≡ width_of n.key_len n.leaf → slice ≡ n.cells → at ≡ prefix_len (is_before or_at pair) (pairs_in (value_of n))

@@ -95,7 +95,7 @@ pub(crate) fn write_at(bytes: &mut [u8], at: usize, new: &[u8])
 }
 
 /// The bytes of a record's number, the high byte first.
-fn record_bytes(num: u64) -> [u8; 8]
+pub(crate) fn record_bytes(num: u64) -> [u8; 8]
     ensures bytes { result ≡ to_be_bytes w64 num }
     ensures number { num < 2 ^ 64 }
 {

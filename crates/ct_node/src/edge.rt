@@ -1,8 +1,11 @@
 //! The pair at which a node begins or ends, kept in the node itself.
 
-ghost use Rattle.std.specs.Prelude.{◌≡◌, ◌≤◌, ◌+◌, length, drop};
+ghost use Rattle.std.specs.Prelude.{◌≡◌, ℕ, ◌≤◌, ◌+◌, length, drop, option_map};
+ghost use Rattle.std.specs.Ordering.{is_eq};
 ghost use Rattle.ct_definitions.specs.Pairs.{pair_cmp};
 ghost use Rattle.ct_node.specs.Cells.{pair_at};
+ghost use Rattle.ct_node.specs.Stored.{edge_pair};
+ghost use Rattle.ct_node.specs.Roles.{first_of};
 
 use crate::cells::record_at;
 use crate::pair::Pair;
@@ -17,8 +20,6 @@ pub(crate) struct Edge {
 }
 
 impl Edge {
-    ghost use Rattle.ct_node.specs.Stored.{edge_pair};
-
     /// The pair in the bytes from a place on.
     pub(crate) fn read(bytes: &[u8], at: usize, key_len: usize) -> Edge
         requires key { key_len ≤ 128 }
@@ -44,5 +45,31 @@ impl Edge {
             Ordering::Equal => self.num.cmp(&pair.num),
             Ordering::Greater => Ordering::Greater,
         }
+    }
+
+    /// Whether it is the pair that bytes begin with.
+    pub(crate) fn is_at(&self, bytes: &[u8], key_len: usize) -> bool
+        requires key { key_len ≤ 128 }
+        requires within { key_len + 8 ≤ length bytes.now }
+        ensures { result ≡ is_eq (pair_cmp (pair_at key_len bytes.now) (edge_pair key_len self.now)) }
+    {
+        let key = &bytes[..key_len];
+        match key.cmp(&self.key[..key_len]) {
+            Ordering::Equal => record_at(bytes, key_len) == self.num,
+            _ => false,
+        }
+    }
+}
+
+/// The pair with which an inner node of this low bound begins: the bound, or zeros where it is open.
+pub(crate) fn first_of(low: Option<Edge>) -> Edge
+    ensures { (key_len : ℕ) → key_len ≤ 128 → edge_pair key_len result ≡ first_of key_len (option_map (edge_pair key_len) low) }
+{
+    match low {
+        Some(edge) => edge,
+        None => Edge {
+            key: [0; LONGEST_KEY],
+            num: 0,
+        },
     }
 }

@@ -3,14 +3,20 @@
 //! page, in cells of one width, so a pair is found by halves and an edit moves bytes once.
 #![tactic(auto)]
 
+mod bounds;
 mod cells;
+mod check;
 mod edge;
+mod laws;
 mod node;
+#[cfg(test)]
+mod page_tests;
 mod pair;
 mod target;
 #[cfg(test)]
 mod tests;
 
+pub use laws::{node_pages_are_exact, positions_keep_nodes};
 pub use node::Node;
 pub use pair::Pair;
 pub use target::{Place, Target};

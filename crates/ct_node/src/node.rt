@@ -1,21 +1,29 @@
 //! A node: its bounds, its right link and its entries, and the edits of one.
 
-ghost use Rattle.std.specs.Prelude.{◌≡◌, ◌≤◌, ◌<◌, ◌+◌, ◌*◌, [], ◌++◌, length, take, drop, filter, slice_get, false, true, nat_lt, if◌then◌else◌, None};
+ghost use Rattle.std.specs.Prelude.{◌≡◌, ℕ, ◌≤◌, ◌<◌, ◌+◌, ◌*◌, ◌-◌, [], ◌++◌, length, take, drop, replicate, filter, slice_get, slice_index, false, true, nat_lt, if◌then◌else◌, Some, None, IsSome, IfSome, IsTrue};
 ghost use Rattle.std.specs.List.{prefix_len};
 ghost use Rattle.std.specs.Option.{option_map_or};
 ghost use Rattle.std.specs.Ordering.{is_eq};
 ghost use Rattle.ct_definitions.specs.Pairs.{pair_cmp, with_pair};
+ghost use Rattle.ct_page.specs.declared.kind.PageKind.TheVariants.{Leaf, Inner};
+ghost use Rattle.ct_page.specs.Fields.{u64_at};
+ghost use Rattle.ct_page.specs.Headers.{has_fields};
 ghost use Rattle.ct_node.specs.Nodes.{IsNode, pairs_in, capacity_of, is_from, is_below, is_within, has_pair, with_entry, has_other_pair};
-ghost use Rattle.ct_node.specs.Cells.{cells_of, pair_at};
+ghost use Rattle.ct_node.specs.Cells.{cells_of, pair_at, with_bytes};
 ghost use Rattle.ct_node.specs.Places.{is_before, is_past, is_ahead, here, down, next_place};
 ghost use Rattle.ct_node.specs.Halves.{middle_of, upper_half, lower_half};
+ghost use Rattle.ct_node.specs.Roles.{begins_at_low};
+ghost use Rattle.ct_node.specs.Pages.{node_in, header_in, page_text};
 
+use crate::bounds::{cells_at, high_at, read_bound, write_bound};
 use crate::cells::{
-    cmp_at, copy_cells, count_before, insert_entry, page_at, remove_cell, width_of,
+    cmp_at, copy_cells, count_before, insert_entry, page_at, remove_cell, width_of, write_at,
 };
-use crate::edge::Edge;
+use crate::check::{is_leaf, is_node_page};
+use crate::edge::{Edge, first_of};
 use crate::pair::Pair;
 use crate::target::{Place, Target};
+use ct_page::{HEADER_SIZE, Header, PAGE_SIZE, PageKind, u16_at, u64_at};
 use std::marker::Model;
 
 /// How many bytes of a page a node has for its bounds and entries.
@@ -75,6 +83,67 @@ impl Node {
             count: 0,
             cells: [0; BODY],
         }
+    }
+
+    /// The node of a page, or `None` where it is outside the grammar of nodes.
+    pub fn from_page(bytes: &[u8; PAGE_SIZE]) -> Option<Node>
+        ensures node { result ≡ node_in bytes.now }
+        ensures text { IfSome result (λ node. page_text (u64_at 8 bytes.now) node ≡ bytes.now) }
+    {
+        if !is_node_page(bytes) {
+            return None;
+        }
+        Some(Node::from_node_page(bytes))
+    }
+
+    /// The node of a page that is known to be one.
+    pub fn from_node_page(bytes: &[u8; PAGE_SIZE]) -> Node
+        requires { IsSome (node_in bytes.now) }
+        ensures node { Some result ≡ node_in bytes.now }
+        ensures text { page_text (u64_at 8 bytes.now) result ≡ bytes.now }
+    {
+        let key_len = usize::from(bytes[24]);
+        Node {
+            file: u16_at(bytes, 2),
+            index: u16_at(bytes, 4),
+            leaf: is_leaf(bytes),
+            key_len,
+            low: read_bound(bytes, HEADER_SIZE, key_len),
+            high: read_bound(bytes, high_at(key_len), key_len),
+            right: u64_at(bytes, 16),
+            count: usize::from(u16_at(bytes, 6)),
+            cells: cells_from(bytes, cells_at(key_len)),
+        }
+    }
+
+    /// Writes the page of this node, with the position of its last image.
+    pub fn to_page(&self, position: u64, into: &mut [u8; PAGE_SIZE])
+        ensures text { into.new ≡ page_text position self.now }
+        ensures node { node_in into.new ≡ Some self.now }
+    {
+        self.header(position).write(into);
+        let cells_at = cells_at(self.key_len);
+        let len = self.count * width_of(self.key_len, self.leaf);
+        write_bound(into, HEADER_SIZE, self.key_len, self.low);
+        write_bound(into, high_at(self.key_len), self.key_len, self.high);
+        write_cells(into, cells_at, &self.cells, len);
+        clear_from(into, cells_at + len);
+    }
+
+    /// The header of its page.
+    fn header(&self, position: u64) -> Header
+        ensures header { result ≡ header_in position self.now }
+        ensures fields { IsTrue (has_fields (header_in position self.now)) }
+    {
+        header_of(
+            self.leaf,
+            self.file,
+            self.index,
+            self.count as u16,
+            position,
+            self.right,
+            self.key_len as u8,
+        )
     }
 
     pub fn file(&self) -> u16
@@ -156,6 +225,17 @@ impl Node {
             return true;
         };
         high.cmp_pair(self.key_len, pair).is_gt()
+    }
+
+    /// Whether an inner node begins at its low bound, or at zeros where that is open. So it has an
+    /// entry. Of a leaf nothing is asked.
+    pub fn begins_at_low(&self) -> bool
+        ensures { result ≡ begins_at_low self.now }
+    {
+        if self.leaf || self.count == 0 {
+            return self.leaf;
+        }
+        first_of(self.low).is_at(self.cells.as_slice(), self.key_len)
     }
 
     /// Puts a pair into a leaf.
@@ -366,9 +446,67 @@ fn is_cell_of(
 }
 
 /// How many entries a node has room for.
-fn capacity_of(key_len: usize, leaf: bool) -> usize
+pub(crate) fn capacity_of(key_len: usize, leaf: bool) -> usize
     requires { key_len ≤ 128 }
     ensures { result ≡ capacity_of key_len leaf }
 {
     (BODY - 2 * (9 + key_len)) / width_of(key_len, leaf)
+}
+
+/// The header of a node's page.
+fn header_of(
+    leaf: bool,
+    file: u16,
+    index: u16,
+    count: u16,
+    position: u64,
+    right: u64,
+    key_len: u8,
+) -> Header
+    ensures header { result ≡ record { kind = if leaf then Leaf else Inner; file = file; index = index; count = count; position = position; right = right; key_len = key_len } }
+    ensures fields { IsTrue (has_fields result) }
+{
+    let kind = if leaf {
+        PageKind::Leaf
+    } else {
+        PageKind::Inner
+    };
+    Header {
+        kind,
+        file,
+        index,
+        count,
+        position,
+        right,
+        key_len,
+    }
+}
+
+/// The bytes of a page from a place on, and zeros behind them.
+fn cells_from(page: &[u8; PAGE_SIZE], at: usize) -> [u8; BODY]
+    requires behind { 128 ≤ at }
+    requires within { at ≤ 4096 }
+    ensures { result ≡ drop at page.now ++ replicate (at - 128) 0 }
+{
+    let mut cells = [0; BODY];
+    copy_cells(page.as_slice(), at, PAGE_SIZE, cells.as_mut_slice());
+    cells
+}
+
+/// Writes the first bytes of a node's cells over those of a page from a place on.
+fn write_cells(page: &mut [u8; PAGE_SIZE], at: usize, cells: &[u8; BODY], len: usize)
+    requires len { len ≤ 3968 }
+    requires within { at + len ≤ 4096 }
+    ensures page { page.new ≡ with_bytes at (take len cells.now) page.old }
+    ensures bytes { (i : ℕ) → slice_index cells.now i < 256 }
+{
+    write_at(page, at, &cells[..len]);
+}
+
+/// Makes the bytes of a page from a place on zeros.
+fn clear_from(page: &mut [u8; PAGE_SIZE], at: usize)
+    requires { at ≤ 4096 }
+    ensures { page.new ≡ take at page.old ++ replicate (4096 - at) 0 }
+{
+    page[at..].fill(0);
 }

@@ -4,6 +4,7 @@ ghost use Rattle.std.specs.Prelude.{◌≡◌, ◌≤◌, length, IfOk};
 
 use super::*;
 use ct_key::KeyBuf;
+use ct_page::PAGE_SIZE;
 use std::alloc::Global;
 use std::process::Abort;
 use std::test::Fail;
@@ -78,5 +79,42 @@ fn a_full_leaf_is_split_at_its_middle_pair(rt: HostRuntime) -> Result<(), ct_ite
     assert_eq!(rt; right.next_place(&Target::Last), Place::End);
     assert_eq!(rt; leaf.next_place(&Target::Last), Place::Right(9));
     assert_eq!(rt; leaf.next_place(&Target::At(middle)), Place::Right(9));
+    Ok(())
+}
+
+/// The page of the left half of a full leaf.
+fn half_page(alloc: Global) -> Result<[u8; PAGE_SIZE], ct_items::NoMemory> {
+    let mut leaf = full_leaf(alloc)?;
+    if leaf.count() >= 2 {
+        leaf.cut(9);
+    }
+    let mut page = [7; PAGE_SIZE];
+    leaf.to_page(513, &mut page);
+    Ok(page)
+}
+
+#[test]
+fn a_half_is_read_from_its_page_as_it_was_written(
+    rt: HostRuntime,
+) -> Result<(), ct_items::NoMemory> {
+    let page = half_page(rt.alloc())?;
+    assert_eq!(rt; &page[..8], [5, 0, 3, 0, 1, 0, 164, 0].as_slice());
+    assert_eq!(rt;
+        &page[8..25],
+        [1, 2, 0, 0, 0, 0, 0, 0, 9, 0, 0, 0, 0, 0, 0, 0, 4].as_slice()
+    );
+    assert_eq!(rt; &page[128..141], [0; 13].as_slice());
+    assert_eq!(rt;
+        &page[141..154],
+        [1, 0, 0, 0, 7, 0, 0, 0, 0, 0, 0, 3, 69].as_slice()
+    );
+    assert_eq!(rt;
+        &page[154..166],
+        [0, 0, 0, 7, 0, 0, 0, 0, 0, 0, 2, 161].as_slice()
+    );
+    assert_eq!(rt; &page[2122..2134], [0; 12].as_slice());
+    let read = Node::from_page(&page).expect(&rt, "a node");
+    assert_eq!(rt; read.count(), 164);
+    assert_eq!(rt; read.next_place(&Target::Last), Place::Right(9));
     Ok(())
 }

@@ -2,7 +2,6 @@ use Rattle.std.proofs.Common.{◌≡◌, ◌+◌, ◌*◌, false, length, ap, �
 use Rattle.std.specs.Prelude.{slice_get}
 use Rattle.ct_node.specs.Nodes.{NodeValue, width_of}
 use Rattle.ct_node.specs.Places.{down}
-use Rattle.ct_node.specs.declared.target.Place.{Place}
 use Rattle.ct_node.specs.declared.target.Place.TheVariants.{Down, End}
 use Rattle.ct_node.specs.Stored.{value_of}
 use Rattle.ct_node.proofs.CellLemmas.{step_within}

@@ -1,8 +1,7 @@
-use Rattle.std.proofs.Common.{◌≡◌, ◌++◌, ◌/◌, length, drop, ap, ◌∙◌, sym, subst, arith}
+use Rattle.std.proofs.Common.{◌++◌, length, drop, ap, ◌∙◌, sym, subst, arith}
 use Rattle.std.proofs.lemmas.List.{take-append-drop}
 use Rattle.ct_node.specs.Nodes.{NodeValue, IsNode}
 use Rattle.ct_node.specs.Halves.{middle_of, lower_half}
-use Rattle.ct_node.specs.Stored.{value_of}
 use Rattle.ct_node.proofs.HalfLemmas.{value_of-lower, IsNode-lower, enough_count, middle_cell_within}
 use Rattle.ct_node.proofs.node.Node.cut.Goals as goal
 

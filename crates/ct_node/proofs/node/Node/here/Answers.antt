@@ -1,9 +1,8 @@
-use Rattle.std.proofs.Common.{length, ltb, ap, sym, ◌∙◌, refl, subst, ◌≡◌}
+use Rattle.std.proofs.Common.{◌∙◌, refl, subst, ◌≡◌}
 use Rattle.std.proofs.lemmas.Bool.{lt-ltb, le-ltb}
 use Rattle.std.proofs.lemmas.List.{length-map}
 use Rattle.ct_node.specs.Nodes.{NodeValue, pair_in, pairs_in}
 use Rattle.ct_node.specs.Places.{here}
-use Rattle.ct_node.specs.declared.target.Place.{Place}
 use Rattle.ct_node.specs.declared.target.Place.TheVariants.{Here, End}
 use Rattle.ct_node.specs.Stored.{value_of}
 use Rattle.ct_node.proofs.Entries.{length-entries_of}

@@ -1,11 +1,10 @@
-use Rattle.std.proofs.Common.{◌≡◌, ◌+◌, ◌-◌, ◌*◌, ◌<◌, ◌≤◌, List, length, ap, ◌∙◌, sym, subst, arith, ℕ, refl}
+use Rattle.std.proofs.Common.{◌≡◌, ◌*◌, ◌<◌, ◌≤◌, length, ap, ◌∙◌, sym, subst, arith}
 use Rattle.std.proofs.Math.Nat.{mul-le-mul_right}
-use Rattle.ct_node.specs.Nodes.{NodeValue, Entry, pairs_in, width_of, capacity_of, IsNode, with_entry}
-use Rattle.ct_node.specs.Cells.{entries_of, entry_bytes}
+use Rattle.ct_node.specs.Nodes.{NodeValue, pairs_in, width_of, capacity_of, IsNode}
 use Rattle.ct_node.specs.Stored.{value_of}
 use Rattle.ct_node.proofs.Entries.{entry_in}
 use Rattle.ct_node.proofs.Orders.{map-with_entry}
-use Rattle.ct_node.proofs.Edits.{CanTake, with_one_more, IsNode-with_one_more, opened, entries_of-inserted, place-from_search, pairs_ascend, cells_within, next_within, value_of-inserted}
+use Rattle.ct_node.proofs.Edits.{CanTake, with_one_more, IsNode-with_one_more, pairs_ascend, cells_within, next_within, value_of-inserted}
 use Rattle.ct_node.proofs.node.Node.insert.Goals as goal
 
 pub count_before-place-requires-clause-cells : goal.count_before-place-requires-clause-cells

@@ -1,10 +1,8 @@
-use Rattle.std.proofs.Common.{◌≡◌, ◌+◌, ◌-◌, ◌*◌, ◌<◌, ◌≤◌, true, false, length, ap, ◌∙◌, sym, subst, arith}
+use Rattle.std.proofs.Common.{◌≡◌, ◌*◌, ◌≤◌, length, ap, ◌∙◌, sym, subst, arith}
 use Rattle.std.proofs.Math.Nat.{mul-le-mul_right}
 use Rattle.ct_node.specs.Nodes.{NodeValue, pairs_in, width_of, IsNode, has_pair}
-use Rattle.ct_node.specs.Cells.{entries_of}
 use Rattle.ct_node.specs.Stored.{value_of}
 use Rattle.ct_node.proofs.CellLemmas.{step_within}
-use Rattle.ct_node.proofs.Orders.{has_at}
 use Rattle.ct_node.proofs.Edits.{place-from_search, pairs_ascend, cells_within, cell_at-is, has_pair-at, value_of-kept, value_of-taken, without_pair, IsNode-without_pair}
 use Rattle.ct_node.proofs.node.Node.take.Goals as goal
 
