@@ -2,10 +2,10 @@
 
 ghost use Rattle.std.specs.Prelude.{◌≡◌, ◌≤◌, ◌+◌, ◌*◌, ◌&&◌, drop, map, true};
 ghost use Rattle.std.specs.List.{list_all};
-ghost use Rattle.ct_page.specs.Fields.{are_zero};
+ghost use Rattle.ct_page.specs.Fields.{u16_at, are_zero};
 ghost use Rattle.ct_node.specs.Nodes.{is_within};
 ghost use Rattle.ct_node.specs.Cells.{cells_of, pair_at};
-ghost use Rattle.ct_node.specs.Pages.{is_node_kind, is_key_len, is_leaf_in, is_node_of_keys, has_node_header, is_bound, bound_at, rises, high_at, cells_at, is_node_page};
+ghost use Rattle.ct_node.specs.Pages.{is_node_kind, is_key_len, is_leaf_in, key_len_in, is_node_of_keys, has_node_header, is_bound, bound_at, rises, high_at, cells_at, is_node_page};
 
 use crate::bounds::{are_zero, cells_at, high_at, is_below, is_below_at, is_bound, is_from};
 use crate::cells::width_of;
@@ -20,8 +20,8 @@ pub(crate) fn is_node_page(page: &[u8; PAGE_SIZE]) -> bool
     if !has_node_header(page) {
         return false;
     }
-    let key_len = usize::from(page[24]);
-    let count = usize::from(u16_at(page, 6));
+    let key_len = key_len_in(page);
+    let count = count_in(page);
     has_body(page, count, width_of(key_len, is_leaf(page)), key_len)
 }
 
@@ -48,14 +48,14 @@ fn has_node_header(page: &[u8; PAGE_SIZE]) -> bool
     if !is_node_of_keys(page) {
         return false;
     }
-    usize::from(u16_at(page, 6)) <= capacity_of(usize::from(page[24]), is_leaf(page))
+    count_in(page) <= capacity_of(key_len_in(page), is_leaf(page))
 }
 
 /// Whether a page says that it is a node with keys.
 fn is_node_of_keys(page: &[u8; PAGE_SIZE]) -> bool
     ensures { result ≡ is_node_of_keys page.now }
 {
-    has_header(page) && is_node_kind(page[0]) && is_key_len(page[24])
+    has_header(page) && is_node_kind(page[0]) && is_key_len(key_len_in(page))
 }
 
 /// Whether a kind is that of a node.
@@ -66,10 +66,24 @@ fn is_node_kind(kind: u8) -> bool
 }
 
 /// Whether keys can be so long.
-fn is_key_len(key_len: u8) -> bool
+fn is_key_len(key_len: usize) -> bool
     ensures { result ≡ is_key_len key_len }
 {
-    1 <= key_len && usize::from(key_len) <= LONGEST_KEY
+    1 <= key_len && key_len <= LONGEST_KEY
+}
+
+/// How long a page says that its keys are.
+pub(crate) fn key_len_in(page: &[u8; PAGE_SIZE]) -> usize
+    ensures { result ≡ key_len_in page.now }
+{
+    usize::from(page[24])
+}
+
+/// How many entries a page says that it has.
+pub(crate) fn count_in(page: &[u8; PAGE_SIZE]) -> usize
+    ensures { result ≡ u16_at 6 page.now }
+{
+    usize::from(u16_at(page, 6))
 }
 
 /// Whether a page says that it is a leaf.

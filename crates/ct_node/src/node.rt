@@ -19,7 +19,7 @@ use crate::bounds::{cells_at, high_at, read_bound, write_bound};
 use crate::cells::{
     cmp_at, copy_cells, count_before, insert_entry, page_at, remove_cell, width_of, write_at,
 };
-use crate::check::{is_leaf, is_node_page};
+use crate::check::{count_in, is_leaf, is_node_page, key_len_in};
 use crate::edge::{Edge, first_of};
 use crate::pair::Pair;
 use crate::target::{Place, Target};
@@ -102,7 +102,7 @@ impl Node {
         ensures node { Some result ≡ node_in bytes.now }
         ensures text { page_text (u64_at 8 bytes.now) result ≡ bytes.now }
     {
-        let key_len = usize::from(bytes[24]);
+        let key_len = key_len_in(bytes);
         Node {
             file: u16_at(bytes, 2),
             index: u16_at(bytes, 4),
@@ -111,7 +111,7 @@ impl Node {
             low: read_bound(bytes, HEADER_SIZE, key_len),
             high: read_bound(bytes, high_at(key_len), key_len),
             right: u64_at(bytes, 16),
-            count: usize::from(u16_at(bytes, 6)),
+            count: count_in(bytes),
             cells: cells_from(bytes, cells_at(key_len)),
         }
     }

@@ -14,7 +14,6 @@ pub returns : goal.returns
 unfolding has_node_header
 returns c =
     let page = c.args.page.now in
-    let count = c.from.ensures ∙ c.u16_at.ensures in
-    ap (λ n. leb n c.capacity_of.result) count
-    ∙ ap (λ n. leb (u16_at 6 page) n) (c.capacity_of.ensures ∙ ap (λ n. capacity_of n c.is_leaf.result) c.from-2.ensures ∙ ap (λ leaf. capacity_of (get_or page 24 0) leaf) c.is_leaf.ensures)
+    ap (λ n. leb n c.capacity_of.result) c.count_in.ensures
+    ∙ ap (λ n. leb (u16_at 6 page) n) (c.capacity_of.ensures ∙ ap (λ n. capacity_of n c.is_leaf.result) c.key_len_in.ensures ∙ ap (λ leaf. capacity_of (get_or page 24 0) leaf) c.is_leaf.ensures)
     ∙ ap (λ b. b && leb (u16_at 6 page) (capacity_of (get_or page 24 0) (is_leaf_in page))) (sym c.if-not-is_node_of_keys.false ∙ c.is_node_of_keys.ensures)

@@ -11,26 +11,26 @@ use Rattle.ct_node.proofs.node.Node.from_node_page.Goals as goal
 pub high_at-requires : goal.high_at-requires
 high_at-requires c =
     let short = (header_parts c.args.bytes.now (known_page c.args.bytes.now c.requires).header).short_key in
-    omega (arith, c.from-key_len.ensures)
+    omega (arith, c.key_len_in-key_len.ensures)
 
 pub cells_at-requires : goal.cells_at-requires
 cells_at-requires c =
     let short = (header_parts c.args.bytes.now (known_page c.args.bytes.now c.requires).header).short_key in
-    omega (arith, c.from-key_len.ensures)
+    omega (arith, c.key_len_in-key_len.ensures)
 
 pub read_bound-requires-clause-key : goal.read_bound-requires-clause-key
 read_bound-requires-clause-key c =
     let short = (header_parts c.args.bytes.now (known_page c.args.bytes.now c.requires).header).short_key in
-    omega (arith, c.from-key_len.ensures)
+    omega (arith, c.key_len_in-key_len.ensures)
 
 pub read_bound-requires-2-clause-key : goal.read_bound-requires-2-clause-key
 read_bound-requires-2-clause-key c =
     let short = (header_parts c.args.bytes.now (known_page c.args.bytes.now c.requires).header).short_key in
-    omega (arith, c.from-key_len.ensures)
+    omega (arith, c.key_len_in-key_len.ensures)
 
 -- the fields that were read
 node : goal.After-cells_from → Inside
-node c = record { file = c.u16_at.result; index = c.u16_at-2.result; leaf = c.is_leaf.result; key_len = c.from-key_len.result; low = c.read_bound.result; high = c.read_bound-2.result; right = c.u64_at.result; count = c.from.result; cells = c.cells_from.result }
+node c = record { file = c.u16_at.result; index = c.u16_at-2.result; leaf = c.is_leaf.result; key_len = c.key_len_in-key_len.result; low = c.read_bound.result; high = c.read_bound-2.result; right = c.u64_at.result; count = c.count_in.result; cells = c.cells_from.result }
 
 read : (c : goal.After-cells_from) → IsRead c.args.bytes.now (node c)
 unfolding node
@@ -38,11 +38,11 @@ read c = record {
   file = c.u16_at.ensures;
   index = c.u16_at-2.ensures;
   leaf = c.is_leaf.ensures;
-  key_len = c.from-key_len.ensures;
+  key_len = c.key_len_in-key_len.ensures;
   low = c.read_bound.ensures;
-  high = c.read_bound-2.ensures ∙ ap (λ at. bound_at c.from-key_len.result at c.args.bytes.now) c.high_at.ensures;
+  high = c.read_bound-2.ensures ∙ ap (λ at. bound_at c.key_len_in-key_len.result at c.args.bytes.now) c.high_at.ensures;
   right = c.u64_at.ensures;
-  count = c.from.ensures ∙ c.u16_at-3.ensures;
+  count = c.count_in.ensures;
   rest = replicate (c.cells_at.result - 128) 0;
   cells = c.cells_from.ensures ∙ ap (λ at. drop at c.args.bytes.now ++ replicate (c.cells_at.result - 128) 0) c.cells_at.ensures;
 }
