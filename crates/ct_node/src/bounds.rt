@@ -12,7 +12,7 @@ ghost use Rattle.ct_node.specs.Pages.{is_bound, bound_at, bound_bytes, high_at, 
 use crate::cells::{record_at, record_bytes, write_at};
 use crate::edge::Edge;
 use ct_definitions::LONGEST_KEY;
-use ct_page::{HEADER_SIZE, PAGE_SIZE};
+use ct_page::{HEADER_SIZE, PAGE_SIZE, are_zero};
 use std::cmp::Ordering;
 
 /// How many bytes a bound has beside its key.
@@ -131,11 +131,4 @@ pub(crate) fn is_below_at(page: &[u8; PAGE_SIZE], at: usize, other: usize, key_l
             < record_at(page.as_slice(), other + key_len),
         Ordering::Greater => false,
     }
-}
-
-/// Whether all of these bytes are zero.
-pub(crate) fn are_zero(bytes: &[u8]) -> bool
-    ensures { result ≡ are_zero bytes.now }
-{
-    bytes.iter().all(|byte| *byte == 0)
 }

@@ -7,11 +7,11 @@ ghost use Rattle.ct_node.specs.Nodes.{is_within};
 ghost use Rattle.ct_node.specs.Cells.{cells_of, pair_at};
 ghost use Rattle.ct_node.specs.Pages.{is_node_kind, is_key_len, is_leaf_in, key_len_in, is_node_of_keys, has_node_header, is_bound, bound_at, rises, high_at, cells_at, is_node_page};
 
-use crate::bounds::{are_zero, cells_at, high_at, is_below, is_below_at, is_bound, is_from};
+use crate::bounds::{cells_at, high_at, is_below, is_below_at, is_bound, is_from};
 use crate::cells::width_of;
 use crate::node::capacity_of;
 use ct_definitions::LONGEST_KEY;
-use ct_page::{HEADER_SIZE, PAGE_SIZE, PageKind, has_header, u16_at};
+use ct_page::{HEADER_SIZE, PAGE_SIZE, PageKind, are_zero, has_header, u16_at};
 
 /// Whether a page is a node: its header, its bounds, its entries in order within them, and zeros behind.
 pub(crate) fn is_node_page(page: &[u8; PAGE_SIZE]) -> bool

@@ -80,7 +80,7 @@ fn is_unused_zero(bytes: &[u8; PAGE_SIZE]) -> bool
 }
 
 /// Whether all of these bytes are zero.
-fn are_zero(bytes: &[u8]) -> bool
+pub fn are_zero(bytes: &[u8]) -> bool
     ensures { result ≡ are_zero bytes.now }
 {
     bytes.iter().all(|byte| *byte == 0)

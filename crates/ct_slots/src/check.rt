@@ -2,13 +2,12 @@
 
 ghost use Rattle.std.specs.Prelude.{◌≡◌, ◌≢◌, ◌≤◌, ◌+◌, IfSome};
 ghost use Rattle.std.specs.Bool.{OnTrue, OnFalse};
-ghost use Rattle.ct_page.specs.Fields.{are_zero};
 ghost use Rattle.ct_slots.specs.Pages.{IsRecordPage, RecordPage, Fits, page_of};
 ghost use Rattle.ct_slots.specs.Checks.{images_begin, is_entry, has_record_header};
 
 use crate::find::{ENTRY_SIZE, MOST_ENTRIES, count_of};
 use ct_definitions::RECORDS_PER_BLOCK;
-use ct_page::{HEADER_SIZE, NO_INDEX, PAGE_SIZE, Page, PageKind, u16_at};
+use ct_page::{HEADER_SIZE, NO_INDEX, PAGE_SIZE, Page, PageKind, are_zero, u16_at};
 
 /// Whether a page is a record page: its header's, its entries by rising number, its images packed at the
 /// end in that order, the first one last, and zeros between entries and images.
@@ -76,11 +75,4 @@ fn is_entry(page: &[u8; PAGE_SIZE], at: usize, low: usize, end: usize) -> bool
         && num < RECORDS_PER_BLOCK as usize
         && offset + len == end
         && u16_at(page, at + 6) == 0
-}
-
-/// Whether all of these bytes are zero.
-fn are_zero(bytes: &[u8]) -> bool
-    ensures { result ≡ are_zero bytes.now }
-{
-    bytes.iter().all(|byte| *byte == 0)
 }
