@@ -5,3 +5,4 @@ pub mod ByteLemmas
 pub mod NumberLemmas
 pub mod CaseLemmas
 pub mod FrontLemmas
+pub mod FirstEight

@@ -31,7 +31,7 @@ ordering_then-equal Equal = refl
 ordering_then-equal Greater = refl
 
 -- lists with equally long fronts compare by these first
-slice_cmp-append : (xs ys us vs : List ℕ) → length xs ≡ length ys → slice_cmp nat_cmp (xs ++ us) (ys ++ vs) ≡ ordering_then (slice_cmp nat_cmp xs ys) (slice_cmp nat_cmp us vs)
+pub slice_cmp-append : (xs ys us vs : List ℕ) → length xs ≡ length ys → slice_cmp nat_cmp (xs ++ us) (ys ++ vs) ≡ ordering_then (slice_cmp nat_cmp xs ys) (slice_cmp nat_cmp us vs)
 slice_cmp-append [] [] us vs same = refl
 slice_cmp-append [] (y ∷ ys) us vs same = absurd (omega (arith, same))
 slice_cmp-append (x ∷ xs) [] us vs same = absurd (omega (arith, same))
@@ -41,7 +41,7 @@ slice_cmp-append (x ∷ xs) (y ∷ ys) us vs same =
     ∙ ordering_then_assoc (nat_cmp x y) (slice_cmp nat_cmp xs ys) (slice_cmp nat_cmp us vs)
 
 -- the bytes of numbers, high byte first, compare as the numbers
-slice_cmp-reverse : (xs ys : List ℕ) → length xs ≡ length ys → IsBytes xs → IsBytes ys → slice_cmp nat_cmp (reverse xs) (reverse ys) ≡ nat_cmp (number_of xs) (number_of ys)
+pub slice_cmp-reverse : (xs ys : List ℕ) → length xs ≡ length ys → IsBytes xs → IsBytes ys → slice_cmp nat_cmp (reverse xs) (reverse ys) ≡ nat_cmp (number_of xs) (number_of ys)
 slice_cmp-reverse [] [] same each others = refl
 slice_cmp-reverse [] (y ∷ ys) same each others = absurd (omega (arith, same))
 slice_cmp-reverse (x ∷ xs) [] same each others = absurd (omega (arith, same))

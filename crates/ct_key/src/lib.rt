@@ -5,6 +5,7 @@
 
 mod key_buf;
 mod laws;
+mod order;
 mod parts;
 mod target;
 #[cfg(test)]

@@ -3,8 +3,8 @@
 ghost use Rattle.std.specs.Prelude.{◌<◌, ◌+◌, length};
 
 use crate::{
-    Chunk, FlushAt, Log, LogFault, Start, has_open_header, is_id, make_log, open_gate, read_chunk,
-    read_head,
+    Chunk, FlushAt, Log, LogFault, Part, Start, find_chunk, has_open_header, is_id, make_log,
+    open_gate, open_window, read_chunk, read_head,
 };
 use ct_disk::{Disk, DiskError, MemDisk};
 use ct_items::NoMemory;
@@ -301,5 +301,62 @@ fn a_log_that_is_not_opened_hands_its_device_back(rt: HostRuntime) -> Result<(),
             Some((b"one".as_slice(), 12296))
         );
     }
+    Ok(())
+}
+
+#[test]
+fn chunks_are_found_by_one_read(rt: HostRuntime) -> Result<(), Fail> {
+    let alloc = rt.alloc();
+    let mut disk = MemDisk::of(alloc, log_of_two(alloc)?.bytes())?;
+    disk.fail_at(2)?;
+    disk.fail_at(4)?;
+    let mut window = open_window(alloc, &mut disk)?;
+    let failed = find_chunk(&mut disk, &mut window, 12288);
+    assert_eq!(rt; failed, Err(LogFault::Fault));
+    let one = Part {
+        from: 5,
+        len: 3,
+        next: 12296,
+    };
+    assert_eq!(rt; find_chunk(&mut disk, &mut window, 12288)?, Some(one));
+    let Some(two) = find_chunk(&mut disk, &mut window, 12296)? else {
+        return Err(Fail::new("the chunk is not found"));
+    };
+    assert_eq!(rt; (window.groups(two), two.next), (b"two".as_slice(), 12304));
+    assert_eq!(rt; find_chunk(&mut disk, &mut window, 12304)?, None);
+    assert_eq!(rt; find_chunk(&mut disk, &mut window, 12305)?, None);
+    Ok(())
+}
+
+// A log of a chunk of 70,000 bytes, which a window of the usual length does not hold, and a short one.
+fn log_of_long(alloc: Global) -> Result<Log<MemDisk>, DiskError> {
+    let mut log = new_log(alloc, MemDisk::new(alloc))?;
+    add(&mut log, &[7; 70_000])?;
+    run(&mut log, 4)?;
+    add(&mut log, b"two")?;
+    run(&mut log, 4)?;
+    Ok(log)
+}
+
+#[test]
+fn a_long_chunk_is_alone_in_a_window(rt: HostRuntime) -> Result<(), Fail> {
+    let mut log = log_of_long(rt.alloc())?;
+    let mut window = log.window(rt.alloc())?;
+    let long = Part {
+        from: 5,
+        len: 70_000,
+        next: 82_293,
+    };
+    assert_eq!(rt; log.find_from(&mut window, 12288)?, Some(long));
+    assert_eq!(rt; window.bytes.as_slice().len(), 70_005);
+    let last = log.find_from(&mut window, 82_293)?;
+    assert_eq!(rt;
+        last,
+        Some(Part {
+            from: 5,
+            len: 3,
+            next: 82_301
+        })
+    );
     Ok(())
 }

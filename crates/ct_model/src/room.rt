@@ -117,8 +117,8 @@ fn lowest_free_in(block: u64, len: usize, rows: &[Row]) -> Option<u64>
     lowest_unused(block, own)
 }
 
-/// The first block from one on that has a free number for images of `len` bytes, or 2^57.
-pub(crate) fn first_open(from: u64, len: usize, rows: &[Row]) -> u64
+// the first block from one on that has a free number for images of `len` bytes, or 2^57
+fn first_open(from: u64, len: usize, rows: &[Row]) -> u64
     requires from { from ≤ 2 ^ 57 }
     requires len { len ≤ LONGEST_IMAGE }
     requires rising { rise_above 0 rows.now ≡ true }
@@ -132,6 +132,22 @@ pub(crate) fn first_open(from: u64, len: usize, rows: &[Row]) -> u64
         }
     }
     BLOCKS
+}
+
+/// A block from one on, where a record of the number has just been put among the others. It stays as long as
+/// records are put into that very block.
+pub(crate) fn open_after(from: u64, num: u64, len: usize, rows: &[Row]) -> u64
+    requires from { from ≤ 2 ^ 57 }
+    requires len { len ≤ LONGEST_IMAGE }
+    requires rising { rise_above 0 rows.now ≡ true }
+    requires full { AreFull from len rows.now }
+    ensures bound { result ≤ 2 ^ 57 }
+    ensures full { AreFull result len rows.now }
+{
+    if num / RECORDS_PER_BLOCK == from {
+        return from;
+    }
+    first_open(from, len, rows)
 }
 
 /// The lowest number, from 1 on, that is free for images of `len` bytes, where none is in a block

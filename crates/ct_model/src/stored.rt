@@ -11,7 +11,7 @@ ghost use Rattle.ct_model.specs.Stored.{IsStored};
 
 use crate::cache::Cache;
 use crate::index_pairs::{exchange_pairs, put_pairs, take_pairs};
-use crate::room::{first_open, lowest_free_from};
+use crate::room::{lowest_free_from, open_after};
 use crate::rows::{image_at, put_image, put_row, take_row};
 use crate::validity::least_len;
 use ct_definitions::{Bytes, File, FileDef, IndexDef, LONGEST_IMAGE, RECORDS_PER_BLOCK, Row, Rows};
@@ -85,7 +85,7 @@ pub(crate) fn add_row(
         return Err(refusal);
     }
     let least = least_len(file.def.kind) as usize;
-    cache.full_below = first_open(cache.full_below, least, file.records.as_slice());
+    cache.full_below = open_after(cache.full_below, num, least, file.records.as_slice());
     Ok(())
 }
 

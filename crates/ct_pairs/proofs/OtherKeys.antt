@@ -1,9 +1,10 @@
 -- A pair of another number with a key is the first with it, or else the pair after that.
-use Rattle.std.proofs.Common.{◌≡◌, ℕ, ◌<◌, ◌==◌, Bool, true, false, not, ◌&&◌, ◌||◌, cond, List, [], ◌∷◌, Option, Some, None, bytes_eq, refl, sym, ap, ◌∙◌, arith}
+use Rattle.std.proofs.Common.{◌≡◌, ℕ, suc, ◌<◌, ◌==◌, Bool, true, false, not, ◌&&◌, ◌||◌, cond, List, [], ◌∷◌, Option, Some, None, bytes_eq, refl, sym, ap, ◌∙◌, arith}
+use Rattle.std.specs.Prelude.{All}
 use Rattle.std.specs.List.{list_any, find, AllByRecursion}
 use Rattle.std.specs.List.Sorted.{IsStrictlySortedBy}
 use Rattle.std.specs.declared.cmp.Ordering.{Ordering}
-use Rattle.std.specs.declared.cmp.Ordering.TheVariants.{Less, Equal}
+use Rattle.std.specs.declared.cmp.Ordering.TheVariants.{Less, Equal, Greater}
 use Rattle.std.specs.Ordering.{nat_cmp, is_lt, ordering_then, ordering_reverse}
 use Rattle.std.specs.Cmp.Lexicographic.{slice_cmp, bytes_decides}
 use Rattle.std.proofs.lemmas.Bool.{or_left, or_right, and_from, eq-eqb, ne_eqb}
@@ -123,3 +124,20 @@ num_differs own seen num is differs = ne_eqb own num (λ same. differs (is ∙ s
 
 pub num_same : (own seen num : ℕ) → seen ≡ own → seen ≡ num → (own == num) ≡ true
 num_same own seen num is same = eq-eqb own num (sym is ∙ same)
+
+-- where the last pair's key is below the key, no other has it
+pub none_up_to : (key : List ℕ) (last : Pair) (xs : List Pair) → is_lt (slice_cmp nat_cmp last.key key) ≡ true → All (λ x. is_lt (pair_cmp last x) ≡ false) xs → (num : ℕ) → has_other_with num key xs ≡ false
+none_up_to key last [] below all num = refl
+none_up_to key last (x ∷ xs) below all num =
+    let here : is_lt (pair_cmp last x) ≡ false = all 0 x (omega arith) in
+    let apart = false_from (has_key key x) (λ has. not_both (above (bytes_same x.key key has)) here) in
+    let rest : All (λ y. is_lt (pair_cmp last y) ≡ false) xs = λ k d within. all (suc k) d (omega arith) in
+    ap (λ b. b || has_other_with num key xs) (is_other-no_key num key x apart) ∙ none_up_to key last xs below rest num
+  where
+    first_lt : (first second : Ordering) → is_lt first ≡ true → is_lt (ordering_then first second) ≡ true
+    first_lt Less second is = refl
+    first_lt Equal second is = cc
+    first_lt Greater second is = cc
+
+    above : x.key ≡ key → is_lt (pair_cmp last x) ≡ true
+    above same = first_lt (slice_cmp nat_cmp last.key x.key) (nat_cmp last.num x.num) (ap (λ (l : List ℕ). is_lt (slice_cmp nat_cmp last.key l)) same ∙ below)

@@ -1,7 +1,7 @@
 //! `Pairs`, the pairs of one index, which contracts see as their list in order.
 //! They stand in an ordered set, so that each operation takes time by the logarithm of their count.
 
-ghost use Rattle.std.specs.Prelude.{◌≡◌, false, not, ◌&&◌, [], length, OnOk, OnErr};
+ghost use Rattle.std.specs.Prelude.{◌≡◌, ℕ, false, not, ◌&&◌, [], length, IsTrue, OnOk, OnErr};
 ghost use Rattle.std.specs.Option.{option_copied};
 ghost use Rattle.std.specs.List.Sorted.{IsStrictlySortedBy};
 ghost use Rattle.std.specs.Range.Bound.{bound_map};
@@ -89,6 +89,9 @@ impl Pairs {
     pub fn has_other_with(&self, num: u64, key: &[u8]) -> bool
         ensures { result ≡ has_other_with num key.now self.now }
     {
+        if self.ends_below(key) {
+            return false;
+        }
         let Some(first) = self.first_with(key) else {
             return false;
         };
@@ -120,6 +123,16 @@ impl Pairs {
             Seek::Below(key) => self.last_below(key),
             Seek::FirstInSet(set) => self.first_in_set(set),
             Seek::NextInSet(pair, set) => self.next_in_set(pair, set),
+        }
+    }
+
+    // Whether the last pair's key is below the key, as where keys come in order.
+    fn ends_below(&self, key: &[u8]) -> bool
+        ensures { IsTrue result → (num : ℕ) → has_other_with num key.now self.now ≡ false }
+    {
+        match self.set.last() {
+            Some(last) => last.key().cmp(&key).is_lt(),
+            None => false,
         }
     }
 

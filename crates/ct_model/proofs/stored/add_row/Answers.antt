@@ -29,19 +29,19 @@ returns-in-Err-clause-stored c =
     (take_front c.put_pairs.new.pairs (drop (length c.put_pairs.new.pairs) c.args.cache.now.pairs.items) (vec_len c.args.cache.now.pairs) (let len : length c.put_pairs.new.pairs ≡ vec_len c.args.cache.now.pairs = omega (arith, c.put_pairs.auto.pairs, c.as_mut_slice-pairs.ensures.len) in len)
     ∙ c.in-Err.ensures.err ∙ c.as_mut_slice-pairs.ensures.value)
 
-pub first_open-cache-requires-clause-rising : goal.first_open-cache-requires-clause-rising
-first_open-cache-requires-clause-rising c =
+pub open_after-cache-requires-clause-rising : goal.open_after-cache-requires-clause-rising
+open_after-cache-requires-clause-rising c =
     rw c.as_slice-2.ensures (added_rising c.args.file.now c.args.cache.now (record { num = c.args.num; image = c.in_ok-copy.copy }) c.put_row.new.rows c.requires.stored c.requires.num c.requires.free c.in_ok-put_row.ensures.ok)
 
-pub first_open-cache-requires-clause-full : goal.first_open-cache-requires-clause-full
-first_open-cache-requires-clause-full c =
+pub open_after-cache-requires-clause-full : goal.open_after-cache-requires-clause-full
+open_after-cache-requires-clause-full c =
     rw c.as_slice-2.ensures (added_full c.args.file.now c.args.cache.now (record { num = c.args.num; image = c.in_ok-copy.copy }) c.put_row.new.rows c.least_len-least.result c.requires.stored c.in_ok-put_row.ensures.ok c.least_len-least.ensures)
 
 pub returns-clause-stored : goal.returns-clause-stored
 returns-clause-stored c =
-    added c.args.file.now c.args.cache.now (record { num = c.args.num; image = c.in_ok-copy.copy }) c.put_row.new.rows (record { full_below = c.first_open-cache.result; pairs = with_items c.args.cache.now.pairs c.put_pairs.new.pairs }) c.requires.stored
-    (rw c.in_ok-copy.ensures c.requires.len) c.requires.num c.requires.free c.in_ok-put_row.ensures.ok c.first_open-cache.ensures.bound
-    (rw (← c.least_len-least.ensures, ← c.as_slice-2.ensures) c.first_open-cache.ensures.full)
+    added c.args.file.now c.args.cache.now (record { num = c.args.num; image = c.in_ok-copy.copy }) c.put_row.new.rows (record { full_below = c.open_after-cache.result; pairs = with_items c.args.cache.now.pairs c.put_pairs.new.pairs }) c.requires.stored
+    (rw c.in_ok-copy.ensures c.requires.len) c.requires.num c.requires.free c.in_ok-put_row.ensures.ok c.open_after-cache.ensures.bound
+    (rw (← c.least_len-least.ensures, ← c.as_slice-2.ensures) c.open_after-cache.ensures.full)
     (take_front c.put_pairs.new.pairs (drop (length c.put_pairs.new.pairs) c.args.cache.now.pairs.items) (vec_len c.args.cache.now.pairs) (let len : length c.put_pairs.new.pairs ≡ vec_len c.args.cache.now.pairs = omega (arith, c.put_pairs.auto.pairs, c.as_mut_slice-pairs.ensures.len) in len)
     ∙ put_read c.as_slice-indexes.result.now c.args.file.now.def.indexes c.args.num c.as_slice.result.now c.in_ok-copy.copy c.as_mut_slice-pairs.result.now c.args.cache.now.pairs.items c.put_pairs.new.pairs
     c.as_slice-indexes.ensures (c.as_slice.ensures ∙ sym c.in_ok-copy.ensures) c.as_mut_slice-pairs.ensures.value c.in_default.ensures.ok)

@@ -22,3 +22,6 @@ returns c =
     ∙ ap (λ own. bytes_eq own c.args.key.now) c.key.ensures
     ∙ ap (found_has_key c.args.key.now) c.in-Some-first_from.ensures.found
     ∙ sym (other-second c.args.num c.args.key.now c.args.self.now c.in-Some.first.now c.in-Some-first_from.ensures.ordered c.in-Some.ensures same)
+
+pub returns-then-ends_below : goal.returns-then-ends_below
+returns-then-ends_below c = sym (c.ends_below.ensures c.if-ends_below.true c.args.num)
