@@ -164,18 +164,18 @@ fn an_unfinished_and_a_long_line_are_answered(rt: HostRuntime) -> Result<(), Fai
     Ok(())
 }
 
-// what a run puts whose log fails from a call on: five calls open an empty log, four write each group
+// what a run puts whose log fails from a call on: six calls open an empty log, four write each group
 fn replies_from(call: u64) -> &'static str {
     match call {
-        1..=5 => "",
-        6..=9 => "ERR HALT_ERR WRITE\nERR HALT_ERR WRITE\nERR HALT_ERR WRITE\n",
+        1..=6 => "",
+        7..=10 => "ERR HALT_ERR WRITE\nERR HALT_ERR WRITE\nERR HALT_ERR WRITE\n",
         _ => "OK 1\nERR HALT_ERR WRITE\nERR HALT_ERR WRITE\n",
     }
 }
 
 #[test]
 fn each_call_of_the_log_fails_in_turn(rt: HostRuntime) -> Result<(), Fail> {
-    for call in 1..=13 {
+    for call in 1..=14 {
         let mut store = made(rt.alloc(), b"")?;
         store.log.fail_from(call);
         let (cause, _store, out) = run_on(rt.alloc(), "exec", store, LINES)?;
@@ -208,18 +208,18 @@ fn stopped(alloc: Global, call: u64, pick: u64) -> Result<(MemSink, MemSink), No
     Ok((out, told))
 }
 
-// eight calls open the log of one transaction; the ninth writes the record's chunk, the tenth syncs it, and the next two do so with its gate
+// six calls open the log of one transaction; the seventh writes the record's chunk, the eighth syncs it, and the next two do so with its gate
 #[test]
 fn a_record_stopped_anywhere_is_there_or_not(rt: HostRuntime) -> Result<(), Fail> {
-    for call in 9..=13 {
+    for call in 7..=11 {
         for pick in 0..10 {
             let (out, told) = stopped(rt.alloc(), call, pick)?;
             let without = told.bytes() == b"OK 1 1 0\n".as_slice();
             let with = told.bytes() == b"OK 2 1 1\n".as_slice();
             let answered = out.bytes() == b"OK 1\n".as_slice();
-            assert_eq!(rt; answered, call == 13, "{call} {pick}");
+            assert_eq!(rt; answered, call == 11, "{call} {pick}");
             assert!(rt;
-                if call <= 11 {
+                if call <= 9 {
                     without
                 } else {
                     with || !answered
