@@ -4,8 +4,8 @@
 Writes logs of ever more commits of one record each, of 8 and of 150 bytes, in the format of
 docs/formats.md. Opens each with `ctisam DIR check`, the program itself and not the script that
 builds it, and reads it with `cat` into /dev/null. Prints the best of five times of each, with the
-file in the page cache, and their ratio; beside it the processor time of the opening, which a busy
-machine does not lengthen.
+file in the page cache, and their ratio; beside it the processor time of the opening, which other
+work does not lengthen.
 
     bench/opening.py [COMMITS ..]
 """
