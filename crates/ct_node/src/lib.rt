@@ -6,11 +6,15 @@
 mod cells;
 mod edge;
 mod node;
+mod nodes;
 mod pair;
+mod root;
 mod target;
 #[cfg(test)]
 mod tests;
 
 pub use node::Node;
+pub use nodes::Nodes;
 pub use pair::Pair;
+pub use root::{IndexRow, Mark, Owner, Root};
 pub use target::{Place, Target};
