@@ -9,3 +9,6 @@ pub mod Cuts
 pub mod Memory
 pub mod Keys
 pub mod Walking
+pub mod Turns
+pub mod PutTurns
+pub mod SplitTurns

@@ -1,0 +1,7 @@
+//! The tree with right links: puts and takes of one pair and searches, in turns beside others.
+#![tactic(auto)]
+
+mod descent;
+mod put;
+
+pub use ct_tree_laws::{Stage, Walk};
