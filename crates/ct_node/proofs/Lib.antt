@@ -5,3 +5,5 @@ pub mod Entries
 pub mod Edits
 pub mod HalfLemmas
 pub mod Walks
+pub mod PairAt
+pub mod MemLemmas

@@ -5,4 +5,5 @@ pub mod Stored
 pub mod Halves
 pub mod Worlds
 pub mod Turns
+pub mod MemWorlds
 pub use Rattle.ct_definitions.specs.Pairs

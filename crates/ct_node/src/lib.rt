@@ -5,6 +5,7 @@
 
 mod cells;
 mod edge;
+mod mem_nodes;
 mod node;
 mod nodes;
 mod pair;
@@ -13,6 +14,7 @@ mod target;
 #[cfg(test)]
 mod tests;
 
+pub use mem_nodes::MemNodes;
 pub use node::Node;
 pub use nodes::Nodes;
 pub use pair::Pair;

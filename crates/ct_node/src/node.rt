@@ -1,6 +1,6 @@
 //! A node: its bounds, its right link and its entries, and the edits of one.
 
-ghost use Rattle.std.specs.Prelude.{◌≡◌, ◌≤◌, ◌<◌, ◌+◌, ◌*◌, [], ◌++◌, length, take, drop, filter, slice_get, false, true, nat_lt, if◌then◌else◌, None};
+ghost use Rattle.std.specs.Prelude.{◌≡◌, ◌≤◌, ◌<◌, ◌+◌, ◌*◌, [], ◌++◌, length, take, drop, filter, slice_get, false, true, nat_lt, if◌then◌else◌, None, Some};
 ghost use Rattle.std.specs.List.{prefix_len};
 ghost use Rattle.std.specs.Option.{option_map_or};
 ghost use Rattle.std.specs.Ordering.{is_eq};
@@ -11,11 +11,13 @@ ghost use Rattle.ct_node.specs.Places.{is_before, is_past, is_ahead, here, down,
 ghost use Rattle.ct_node.specs.Halves.{middle_of, upper_half, lower_half};
 
 use crate::cells::{
-    cmp_at, copy_cells, count_before, insert_entry, page_at, remove_cell, width_of,
+    cmp_at, copy_cells, count_before, insert_entry, key_at, page_at, record_at, remove_cell,
+    width_of,
 };
 use crate::edge::Edge;
 use crate::pair::Pair;
 use crate::target::{Place, Target};
+use std::alloc::Global;
 use std::marker::Model;
 
 /// How many bytes of a page a node has for its bounds and entries.
@@ -232,6 +234,34 @@ impl Node {
         true
     }
 
+    /// The pair at a place. It takes no memory.
+    pub fn pair(&self, alloc: Global, place: usize) -> Pair
+        requires { place < length self.now.entries }
+        ensures { slice_get (pairs_in self.now) place ≡ Some result }
+    {
+        let width = width_of(self.key_len, self.leaf);
+        let start = place * width;
+        let key = key_at(alloc, self.cells.as_slice(), start, self.key_len);
+        let num = record_at(self.cells.as_slice(), start + self.key_len);
+        Pair { key, num }
+    }
+
+    /// Makes another node a copy of this one. What the other was is gone.
+    pub fn copy_into(&self, into: &mut Node)
+        ensures { into.new ≡ self.now }
+    {
+        into.file = self.file;
+        into.index = self.index;
+        into.leaf = self.leaf;
+        into.key_len = self.key_len;
+        into.low = self.low;
+        into.high = self.high;
+        into.right = self.right;
+        into.count = self.count;
+        let cells = self.cells;
+        into.cells = cells;
+    }
+
     /// Makes another node the one to the right of this: from the middle pair on, up to the bound and
     /// the right link of this one. What the other was is gone.
     pub fn upper_half(&self, into: &mut Node)
@@ -297,7 +327,7 @@ impl Node {
     }
 
     /// How many pairs are below a target, or at it where that counts.
-    fn count_ahead(&self, target: &Target, or_at: bool) -> usize
+    pub fn count_ahead(&self, target: &Target, or_at: bool) -> usize
         ensures { result ≡ prefix_len (is_ahead or_at target.now) (pairs_in self.now) }
     {
         match target {

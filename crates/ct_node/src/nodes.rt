@@ -5,7 +5,7 @@ ghost use Rattle.ct_latch.specs.Latches.{is_of, bars, with_hold, with_share};
 ghost use Rattle.ct_disk.specs.declared.turn.HaltCause.{HaltCause};
 ghost use Rattle.ct_disk.specs.declared.turn.StepFault.{StepFault};
 ghost use Rattle.ct_node.specs.declared.root.Mark.{Mark};
-ghost use Rattle.ct_node.specs.Worlds.{World, Holds, page_at, has_own, with_fresh, with_holds, edited, rooted, row_in, Move, RaisesRoot, IsTidy};
+ghost use Rattle.ct_node.specs.Worlds.{World, Holds, page_at, has_own, with_fresh, with_holds, edited, rooted, row_in, Move, RaisesRoot, IsTidy, no_mark};
 ghost use Rattle.ct_node.specs.Turns.{OnDone, OnBusy, After, LatchedBy, Caused, CausedTurn};
 
 use crate::node::Node;
@@ -36,6 +36,7 @@ pub trait Nodes {
         ensures seen { OnDone result (λ _. page_at (world self.old) page ≡ Holds into.new) }
         ensures world { world self.new ≡ world self.old }
         ensures busy { OnBusy result (λ other. flushes self.old ≡ Some other) }
+        ensures flushes { OnDone result (λ _. flushes self.new ≡ flushes self.old) }
         ensures marks { (mark : Mark) → allows self.old op mark → allows self.new op mark }
         ensures cause { CausedTurn result (faults self.old) (faults self.new) (halted self.old) (halted self.new) };
 
@@ -100,4 +101,7 @@ pub trait Nodes {
         requires { (world self.old).founded ≡ false }
         ensures world { world self.new ≡ world self.old }
         ensures cause { Caused result (faults self.old) (faults self.new) (halted self.old) (halted self.new) };
+
+    /// An edit may always be no step of a transaction.
+    ghost allows_none: { (nodes : Self) (op : ℕ) → allows nodes op no_mark };
 }

@@ -1,5 +1,5 @@
 -- What a turn's answer says of the pairs, and of who is in the way.
-use Rattle.std.specs.Prelude.{◌≡◌, ℕ, Bool, true, false, List, Option, Some, None, find, ◌⊎◌, ◌&&◌, ◌==◌, length}
+use Rattle.std.specs.Prelude.{◌≡◌, ℕ, Bool, true, false, List, Option, Some, None, find, ◌⊎◌, ◌&&◌, ◌==◌, not, length, IsTrue}
 use Rattle.ct_disk.specs.declared.turn.Turn.{Turn}
 use Rattle.ct_disk.specs.declared.turn.Turn.TheVariants.{Done, More, Busy, Refused}
 use Rattle.ct_latch.specs.declared.hold.Hold.{Hold}
@@ -7,9 +7,13 @@ use Rattle.ct_latch.specs.Latches.{bars}
 use Rattle.ct_definitions.specs.Pairs.{Pair}
 use Rattle.ct_node.specs.declared.target.Target.{Target}
 use Rattle.ct_node.specs.declared.target.Target.TheVariants.{First, Last, At, Before}
-use Rattle.ct_node.specs.Nodes.{NodeValue, is_within}
-use Rattle.ct_node.specs.Worlds.{World}
+use Rattle.ct_node.specs.Nodes.{NodeValue, is_within, has_pair}
+use Rattle.ct_node.specs.Places.{is_ahead}
+use Rattle.ct_node.specs.Worlds.{World, has_latch}
 use Rattle.ct_tree_laws.specs.declared.walk.Walk.{Walk}
+use Rattle.ct_tree_laws.specs.declared.walk.Stage.{Stage}
+use Rattle.ct_tree_laws.specs.declared.walk.Stage.TheVariants as stage
+use Rattle.ct_tree_laws.specs.Trees.{Chain}
 use Rattle.ct_tree_laws.specs.Stands.{KeepsKeys, ChangesKeys, added, without}
 
 -- whether a turn has ended its call
@@ -47,3 +51,78 @@ IsInTheWay flushes w op other = (flushes ≡ Some other) ⊎ ((page : ℕ) × (o
 -- whether a node is a leaf that a pair may stand in
 abbrev pub is_for : NodeValue → Pair → Bool
 is_for node pair = node.leaf && node.key_len == length pair.key && is_within node.low node.high pair
+
+-- the pairs without the one that is taken, and whether it is there
+abbrev pub take_at : Target → List Pair → List Pair
+take_at First keys = keys
+take_at Last keys = keys
+take_at (At pair) keys = without pair keys
+take_at (Before pair) keys = keys
+
+abbrev pub has_at : Target → List Pair → Bool
+has_at First keys = false
+has_at Last keys = false
+has_at (At pair) keys = has_pair pair keys
+has_at (Before pair) keys = false
+
+-- the turn that ends a take takes its pair, and no other turn changes a pair
+abbrev pub TakesKeys : Walk → Turn (Unit {0}) → World → World → Type 0
+TakesKeys walk (Done answer) w now = ChangesKeys walk.at (take_at walk.target) w now
+TakesKeys walk More w now = KeepsKeys w now
+TakesKeys walk (Busy op) w now = KeepsKeys w now
+TakesKeys walk (Refused fault) w now = KeepsKeys w now
+
+-- that turn tells whether the pair was there
+abbrev pub TellsTaken : Walk → Turn (Unit {0}) → Bool → World → Type 0
+TellsTaken walk (Done answer) found w = IsTrue w.founded → (keys : List Pair) → Chain w walk.at keys → found ≡ has_at walk.target keys
+TellsTaken walk More found w = Unit {0}
+TellsTaken walk (Busy op) found w = Unit {0}
+TellsTaken walk (Refused fault) found w = Unit {0}
+
+-- the first pair at a target or above it; where `above` is set, above it
+abbrev pub found_right : Bool → Target → List Pair → Option Pair
+found_right above target keys = find (λ pair. not (is_ahead above target pair)) keys
+
+-- the turn that ends a search tells what is found among the pairs as they stand at it
+abbrev pub TellsFound : Walk → Bool → Turn (Unit {0}) → Option Pair → World → Type 0
+TellsFound walk above (Done answer) found w = IsTrue w.founded → (keys : List Pair) → Chain w walk.at keys → found ≡ found_right above walk.target keys
+TellsFound walk above More found w = Unit {0}
+TellsFound walk above (Busy op) found w = Unit {0}
+TellsFound walk above (Refused fault) found w = Unit {0}
+
+-- an operation has no latch
+abbrev pub HasNone : ℕ → World → Type 0
+HasNone op w = (page : ℕ) → has_latch op page w ≡ false
+
+-- the stages of a put or take that has not ended
+abbrev pub IsPutting : Stage → Type 0
+IsPutting stage.Start = Unit {0}
+IsPutting (stage.Down page) = Unit {0}
+IsPutting (stage.Leaf page) = Unit {0}
+IsPutting (stage.Held page) = Unit {0}
+IsPutting (stage.Full page) = Unit {0}
+IsPutting (stage.Split page right) = Unit {0}
+IsPutting (stage.Cut page right) = Unit {0}
+IsPutting (stage.Share page above) = ⊥
+IsPutting (stage.Shared page above) = ⊥
+IsPutting stage.Ended = ⊥
+
+-- a put or take has ended exactly where its turn says so
+abbrev pub GoesOn : Turn (Unit {0}) → Stage → Type 0
+GoesOn (Done answer) to = to ≡ stage.Ended
+GoesOn More to = IsPutting to
+GoesOn (Busy op) to = IsPutting to
+GoesOn (Refused fault) to = IsPutting to
+
+-- the stages of a search that has not ended
+abbrev pub IsSearching : Bool → Stage → Type 0
+IsSearching above stage.Start = Unit {0}
+IsSearching above (stage.Down page) = Unit {0}
+IsSearching above (stage.Leaf page) = Unit {0}
+IsSearching above (stage.Held page) = ⊥
+IsSearching above (stage.Full page) = ⊥
+IsSearching above (stage.Split page right) = ⊥
+IsSearching above (stage.Cut page right) = ⊥
+IsSearching above (stage.Share page over) = over ≡ above
+IsSearching above (stage.Shared page over) = over ≡ above
+IsSearching above stage.Ended = ⊥

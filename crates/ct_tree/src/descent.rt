@@ -1,12 +1,12 @@
 //! The way from the root to the leaf of a target.
 
-ghost use Rattle.std.specs.Prelude.{◌≡◌, IsTrue, false, true};
+ghost use Rattle.std.specs.Prelude.{◌≡◌, ◌==◌, ◌&&◌, IsTrue, false, true, length};
 ghost use Rattle.ct_node.specs.Turns.{OnBusy, CausedTurn};
 ghost use Rattle.ct_tree_laws.specs.Stands.{Stands, Stepped, KeepsKeys};
-ghost use Rattle.ct_tree.specs.Answers.{is_done, IsInTheWay};
+ghost use Rattle.ct_tree.specs.Answers.{is_done, IsInTheWay, IsPutting, IsSearching, is_for};
 
 use ct_disk::Turn;
-use ct_node::{Node, Nodes, Place};
+use ct_node::{Node, Nodes, Pair, Place};
 use ct_tree_laws::{Stage, Walk};
 
 /// Whether a turn has ended its call.
@@ -27,6 +27,8 @@ pub(crate) fn start<N: Nodes>(walk: &Walk, nodes: &mut N) -> (Stage, Turn<()>)
     ensures stepped { Stepped walk.now result.0 (N.world nodes.old) (N.world nodes.new) }
     ensures keys { KeepsKeys (N.world nodes.old) (N.world nodes.new) }
     ensures going { is_done result.1 ≡ false }
+    ensures putting { IsPutting result.0 }
+    ensures searching { (above : _) → IsSearching above result.0 }
     ensures busy { OnBusy result.1 (IsInTheWay (N.flushes nodes.old) (N.world nodes.old) walk.now.op) }
     ensures cause { CausedTurn result.1 (N.faults nodes.old) (N.faults nodes.new) (N.halted nodes.old) (N.halted nodes.new) }
 {
@@ -44,6 +46,8 @@ pub(crate) fn descend<N: Nodes>(walk: &Walk, nodes: &mut N, page: u64) -> (Stage
     ensures stepped { Stepped walk.now result.0 (N.world nodes.old) (N.world nodes.new) }
     ensures keys { KeepsKeys (N.world nodes.old) (N.world nodes.new) }
     ensures going { is_done result.1 ≡ false }
+    ensures putting { IsPutting result.0 }
+    ensures searching { (above : _) → IsSearching above result.0 }
     ensures busy { OnBusy result.1 (IsInTheWay (N.flushes nodes.old) (N.world nodes.old) walk.now.op) }
     ensures cause { CausedTurn result.1 (N.faults nodes.old) (N.faults nodes.new) (N.halted nodes.old) (N.halted nodes.new) }
 {
@@ -63,4 +67,28 @@ pub(crate) fn descend<N: Nodes>(walk: &Walk, nodes: &mut N, page: u64) -> (Stage
             return (Stage::Down { page }, Turn::Refused(nodes.bad(page)));
         }
     }
+}
+
+/// Makes the leaf that was found the operation's own.
+pub(crate) fn own_leaf<N: Nodes>(walk: &Walk, nodes: &mut N, page: u64) -> (Stage, Turn<()>)
+    requires { Stands walk.now (Stage.Leaf page) (N.world nodes.old) }
+    ensures stepped { Stepped walk.now result.0 (N.world nodes.old) (N.world nodes.new) }
+    ensures keys { KeepsKeys (N.world nodes.old) (N.world nodes.new) }
+    ensures going { is_done result.1 ≡ false }
+    ensures putting { IsPutting result.0 }
+    ensures busy { OnBusy result.1 (IsInTheWay (N.flushes nodes.old) (N.world nodes.old) walk.now.op) }
+    ensures cause { CausedTurn result.1 (N.faults nodes.old) (N.faults nodes.new) (N.halted nodes.old) (N.halted nodes.new) }
+{
+    let owned = nodes.own(walk.op, page);
+    if !is_done(&owned) {
+        return (Stage::Leaf { page }, owned);
+    }
+    (Stage::Held { page }, Turn::More)
+}
+
+/// Whether a node is a leaf that a pair may stand in.
+pub(crate) fn is_for(node: &Node, pair: &Pair) -> bool
+    ensures { result ≡ is_for node.now pair.now }
+{
+    node.is_leaf() && node.key_len() == pair.key.as_slice().len() && node.covers(pair)
 }

@@ -3,5 +3,9 @@
 
 mod descent;
 mod put;
+mod search;
+mod split;
+mod take;
 
 pub use ct_tree_laws::{Stage, Walk};
+pub use put::Put;

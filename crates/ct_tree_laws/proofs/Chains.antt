@@ -78,11 +78,11 @@ role_at w t leaf low page roles at = roles page at.node at.is at.of at.linked
 pub one_node : (w : World) (page : ℕ) (node other : NodeValue) → page_at w page ≡ Holds node → page_at w page ≡ Holds other → other ≡ node
 one_node w page node other is also = let both : Holds other ≡ Holds node = sym also ∙ is in cc
 
-none_linked : (w : World) (t : Tree) (pages : List ℕ) (page : ℕ) → Linked w t None pages → IsAmong page pages → ⊥
+pub none_linked : (w : World) (t : Tree) (pages : List ℕ) (page : ℕ) → Linked w t None pages → IsAmong page pages → ⊥
 none_linked w t [] page linked among = among
 none_linked w t (first ∷ pages) page linked among = absurd (none_is_no_link linked.0 first linked.1)
 
-low_of_link : (low other : Option Pair) (page q : ℕ) → link_to low q ≡ link_to other page → other ≡ low
+pub low_of_link : (low other : Option Pair) (page q : ℕ) → link_to low q ≡ link_to other page → other ≡ low
 low_of_link low other page q is = ap (link_low low) (sym is)
   where
     link_low : Option Pair → Option Link → Option Pair

@@ -12,3 +12,5 @@ pub mod Walking
 pub mod Turns
 pub mod PutTurns
 pub mod SplitTurns
+pub mod SearchTurns
+pub mod Finds

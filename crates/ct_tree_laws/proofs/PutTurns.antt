@@ -1,10 +1,11 @@
 -- The turns of a put: each ends at a stage that stands, keeps what others remember, and changes the pairs by its own one at most.
 use Rattle.std.proofs.Common.{◌≡◌, ℕ, ◌+◌, ◌<◌, ◌≤◌, Bool, true, false, not, cond, List, [], ◌∷◌, length, refl, sym, ap, ◌∙◌, arith, subst, inl, inr, ⊎_elim, Option, Some, None, filter}
 use Rattle.std.specs.Prelude.{IsTrue, ◌⊎◌, find, ◌==◌, if◌then◌else◌}
-use Rattle.std.proofs.lemmas.Bool.{cases_Bool, false≢true, true≢false, cond-true, cond-false}
+use Rattle.std.proofs.lemmas.Bool.{cases_Bool, false≢true, true≢false, cond-true, cond-false, or_parts}
 use Rattle.std.proofs.lemmas.List.{get_or_past}
 use Rattle.ct_latch.specs.Latches.{is_of, bars, with_hold, with_share}
-use Rattle.ct_definitions.specs.Pairs.{Pair, with_pair}
+use Rattle.std.specs.Ordering.{is_eq}
+use Rattle.ct_definitions.specs.Pairs.{Pair, pair_cmp, with_pair}
 use Rattle.ct_node.specs.declared.root.Root.{Root}
 use Rattle.ct_node.specs.declared.target.Target.{Target}
 use Rattle.ct_node.specs.declared.target.Target.TheVariants.{At}
@@ -182,3 +183,32 @@ take_keys walk page node new pair w mid now stands is leaf within sound made sam
     let takes = takes_pair walk page node new pair w is leaf within sound made here in
     let changed = ChangesKeys-takes walk.op page new walk.at here.tree here.leaves w here.apart here.is takes (held_seen walk page node w is here).0.of at keys chain in
     freed_after walk page new w mid now (λ _. (LeavesLinks-takes walk.op page new w here.apart takes).apart) same gives founded at (cond (is_same_root at walk.at) (without pair keys) keys) changed
+
+-- whether the pair is among the index's pairs is told by its leaf
+pub has_keys : (walk : Walk) (page : ℕ) (node : NodeValue) (pair : Pair) (w : World) → Stands walk (stage.Held page) w → page_at w page ≡ Holds node → is_within node.low node.high pair ≡ true → IsTrue w.founded → (keys : List Pair) → Chain w walk.at keys → has_pair pair (pairs_in node) ≡ has_pair pair keys
+has_keys walk page node pair w stands is within founded keys chain =
+    let here = stands founded in
+    let told : IsTree w walk.at here.tree chain.leaves = subst (λ t. IsTree w walk.at t chain.leaves) (one_tree w walk.at here.tree chain.tree here.leaves chain.leaves here.is chain.is) chain.is in
+    let seen = held_seen walk page node w is here in
+    sym (has_pair-joined w walk.at here.tree chain.leaves page node pair told seen.0.of is seen.1 seen.0.linked within) ∙ ap (has_pair pair) chain.keys_are
+
+without_none : (pair : Pair) (keys : List Pair) → has_pair pair keys ≡ false → without pair keys ≡ keys
+without_none pair [] none = refl
+without_none pair (key ∷ keys) none =
+    let parts = or_parts (is_eq (pair_cmp key pair)) (has_pair pair keys) none in
+    let kept : without pair (key ∷ keys) ≡ key ∷ without pair keys = rw parts.0 refl in
+    kept ∙ ap (λ rest. key ∷ rest) (without_none pair keys parts.1)
+
+pub absent_keys : (walk : Walk) (page : ℕ) (node : NodeValue) (pair : Pair) (w now : World) → Stands walk (stage.Held page) w → page_at w page ≡ Holds node → is_within node.low node.high pair ≡ true → has_pair pair (pairs_in node) ≡ false → now ≡ freed page walk.op w → ChangesKeys walk.at (without pair) w now
+absent_keys walk page node pair w now stands is within has gives founded at keys chain = ⊎_elim mine other (cases_Bool (is_same_root at walk.at))
+  where
+    kept : Chain now at keys
+    kept = freed_keys walk (stage.Held page) page w w now stands refl gives founded at keys chain
+
+    mine : is_same_root at walk.at ≡ true → Chain now at (cond (is_same_root at walk.at) (without pair keys) keys)
+    mine same =
+        let none : has_pair pair keys ≡ false = sym (has_keys walk page node pair w stands is within founded keys (subst (λ root. Chain w root keys) (same_root at walk.at same) chain)) ∙ has in
+        subst (Chain now at) (sym (cond-true (is_same_root at walk.at) (without pair keys) keys same ∙ without_none pair keys none)) kept
+
+    other : is_same_root at walk.at ≡ false → Chain now at (cond (is_same_root at walk.at) (without pair keys) keys)
+    other differ = subst (Chain now at) (sym (cond-false (is_same_root at walk.at) (without pair keys) keys differ)) kept

@@ -13,7 +13,7 @@ use Rattle.ct_tree_laws.specs.declared.walk.Walk.{Walk}
 use Rattle.ct_tree_laws.specs.declared.walk.Stage.{Stage}
 use Rattle.ct_tree_laws.specs.declared.walk.Stage.TheVariants as stage
 use Rattle.ct_tree_laws.specs.Trees.{Tree, IsAt, IsNear}
-use Rattle.ct_tree_laws.specs.Stands.{IsNearLeaf, IsAtStage, StandsIn, Stands, Keeps, Stepped}
+use Rattle.ct_tree_laws.specs.Stands.{IsNearLeaf, IsAtStage, StandsIn, Stands, Keeps, Stepped, KeepsKeys}
 use Rattle.ct_tree_laws.proofs.Walking.{IsSeen, IsLast, seen_near, near_right, near_down, last_here}
 
 -- the same operation at another stage in the same world
@@ -67,3 +67,10 @@ descend_bad walk page node w now stands is same on inner =
     not_founded w now same (λ founded.
     let last = last_seen walk page node End w is on (λ q one. absurd (cc)) (λ q one. absurd (cc)) (stands founded) in
     true≢false (sym last.leaf ∙ inner))
+
+pub keys_same : (w now : World) → now ≡ w → KeepsKeys w now
+keys_same w now same = subst (KeepsKeys w) (sym same) (λ founded at keys chain. chain)
+
+-- a stage that stays
+pub stays : (walk : Walk) (from : Stage) (w now : World) → now ≡ w → Stands walk from w → Stepped walk from w now
+stays walk from w now same stands = stepped_same walk from w now same stands
