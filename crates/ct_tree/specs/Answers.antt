@@ -126,3 +126,76 @@ IsSearching above (stage.Cut page right) = ⊥
 IsSearching above (stage.Share page over) = over ≡ above
 IsSearching above (stage.Shared page over) = over ≡ above
 IsSearching above stage.Ended = ⊥
+
+-- the answer of a turn, with what a call that has ended tells
+abbrev pub answer_with : {T : Type 0} → Turn (Unit {0}) → T → Turn T
+answer_with (Done answer) told = Done told
+answer_with More told = More
+answer_with (Busy op) told = Busy op
+answer_with (Refused fault) told = Refused fault
+
+-- the stages on the way to a leaf
+abbrev pub IsFinding : Stage → Type 0
+IsFinding stage.Start = Unit {0}
+IsFinding (stage.Down page) = Unit {0}
+IsFinding (stage.Leaf page) = Unit {0}
+IsFinding (stage.Held page) = ⊥
+IsFinding (stage.Full page) = ⊥
+IsFinding (stage.Split page right) = ⊥
+IsFinding (stage.Cut page right) = ⊥
+IsFinding (stage.Share page above) = ⊥
+IsFinding (stage.Shared page above) = ⊥
+IsFinding stage.Ended = ⊥
+
+-- the stages of a take that has not ended
+abbrev pub IsTaking : Stage → Type 0
+IsTaking stage.Start = Unit {0}
+IsTaking (stage.Down page) = Unit {0}
+IsTaking (stage.Leaf page) = Unit {0}
+IsTaking (stage.Held page) = Unit {0}
+IsTaking (stage.Full page) = ⊥
+IsTaking (stage.Split page right) = ⊥
+IsTaking (stage.Cut page right) = ⊥
+IsTaking (stage.Share page above) = ⊥
+IsTaking (stage.Shared page above) = ⊥
+IsTaking stage.Ended = ⊥
+
+-- a take has ended exactly where its turn says so
+abbrev pub TakeGoesOn : {T : Type 0} → Turn T → Stage → Type 0
+TakeGoesOn (Done answer) to = to ≡ stage.Ended
+TakeGoesOn More to = IsTaking to
+TakeGoesOn (Busy op) to = IsTaking to
+TakeGoesOn (Refused fault) to = IsTaking to
+
+-- the turn that ends a take takes its pair and tells whether it was there; no other turn changes a pair
+abbrev pub TakenKeys : Walk → Turn Bool → World → World → Type 0
+TakenKeys walk (Done found) w now = ChangesKeys walk.at (take_at walk.target) w now
+TakenKeys walk More w now = KeepsKeys w now
+TakenKeys walk (Busy op) w now = KeepsKeys w now
+TakenKeys walk (Refused fault) w now = KeepsKeys w now
+
+abbrev pub IsTaken : Walk → Turn Bool → World → Type 0
+IsTaken walk (Done found) w = IsTrue w.founded → (keys : List Pair) → Chain w walk.at keys → found ≡ has_at walk.target keys
+IsTaken walk More w = Unit {0}
+IsTaken walk (Busy op) w = Unit {0}
+IsTaken walk (Refused fault) w = Unit {0}
+
+-- the turn that ends a search finds its pair among those that stand at it
+abbrev pub IsFound : Walk → Bool → Turn (Option Pair) → World → Type 0
+IsFound walk above (Done found) w = IsTrue w.founded → (keys : List Pair) → Chain w walk.at keys → found ≡ found_right above walk.target keys
+IsFound walk above More w = Unit {0}
+IsFound walk above (Busy op) w = Unit {0}
+IsFound walk above (Refused fault) w = Unit {0}
+
+-- the stages of a search that has no leaf to look at
+abbrev pub IsSeeking : Bool → Stage → Type 0
+IsSeeking above stage.Start = Unit {0}
+IsSeeking above (stage.Down page) = Unit {0}
+IsSeeking above (stage.Leaf page) = Unit {0}
+IsSeeking above (stage.Held page) = ⊥
+IsSeeking above (stage.Full page) = ⊥
+IsSeeking above (stage.Split page right) = ⊥
+IsSeeking above (stage.Cut page right) = ⊥
+IsSeeking above (stage.Share page over) = over ≡ above
+IsSeeking above (stage.Shared page over) = ⊥
+IsSeeking above stage.Ended = ⊥

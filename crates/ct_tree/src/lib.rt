@@ -2,10 +2,14 @@
 #![tactic(auto)]
 
 mod descent;
+mod program;
 mod put;
 mod search;
 mod split;
 mod take;
 
 pub use ct_tree_laws::{Stage, Walk};
+pub use program::{Answer, Program, turn};
 pub use put::Put;
+pub use search::Search;
+pub use take::Take;

@@ -3,13 +3,124 @@
 ghost use Rattle.std.specs.Prelude.{◌≡◌, ◌≤◌, ◌<◌, IsTrue, false, true, length};
 ghost use Rattle.ct_node.specs.Turns.{OnBusy, CausedTurn};
 ghost use Rattle.ct_tree_laws.specs.Stands.{Stands, Stepped, KeepsKeys};
-ghost use Rattle.ct_tree.specs.Answers.{is_done, TellsFound, HasNone, IsInTheWay, IsSearching};
+ghost use Rattle.ct_tree.specs.Answers.{is_done, TellsFound, IsFound, HasNone, IsInTheWay, IsSearching, IsSeeking};
 
-use crate::descent::is_done;
+use crate::descent::{answer_with, descend, is_done, start};
 use ct_disk::Turn;
-use ct_node::{Node, Nodes, Pair, Place, Target};
+use ct_node::{Node, Nodes, Pair, Place, Root, Target};
 use ct_tree_laws::{Stage, Walk};
 use std::alloc::Global;
+
+/// Searches an index to the right, in turns. It keeps its latches until `end`.
+#[derive(Drop)]
+pub struct Search {
+    alloc: Global,
+    pub walk: Walk,
+    pub above: bool,
+    pub stage: Stage,
+}
+
+impl Search {
+    /// A search for the first pair at the target or above it; where `above` is set, above it. It
+    /// takes no memory.
+    pub fn new(alloc: Global, op: u64, at: Root, target: Target, above: bool) -> Search
+        ensures walk { result.walk ≡ record { op = op; at = at; target = target } }
+        ensures above { result.above ≡ above }
+        ensures stage { result.stage ≡ Stage.Start }
+    {
+        Search {
+            alloc,
+            walk: Walk { op, at, target },
+            above,
+            stage: Stage::Start,
+        }
+    }
+
+    /// One turn. The turn that answers `Done` gives the pair found among those that stand at it, and
+    /// keeps the latches under which it was found. A search that is `Busy` has given all its latches
+    /// back, and begins again.
+    pub fn turn<N: Nodes>(&mut self, nodes: &mut N) -> Turn<Option<Pair>>
+        requires stands { Stands self.old.walk self.old.stage (N.world nodes.old) }
+        requires open { IsSearching self.old.above self.old.stage }
+        ensures walk { self.new.walk ≡ self.old.walk }
+        ensures above { self.new.above ≡ self.old.above }
+        ensures stepped { Stepped self.old.walk self.new.stage (N.world nodes.old) (N.world nodes.new) }
+        ensures keys { KeepsKeys (N.world nodes.old) (N.world nodes.new) }
+        ensures found { IsFound self.old.walk self.old.above result (N.world nodes.old) }
+        ensures open { IsSearching self.new.above self.new.stage }
+        ensures busy { OnBusy result (IsInTheWay (N.flushes nodes.old) (N.world nodes.old) self.old.walk.op) }
+        ensures cause { CausedTurn result (N.faults nodes.old) (N.faults nodes.new) (N.halted nodes.old) (N.halted nodes.new) }
+    {
+        let step = search_step(self.alloc, &self.walk, self.above, self.stage, nodes);
+        self.stage = step.0;
+        answer_with(step.1, step.2)
+    }
+
+    /// Ends the search: none of its latches stands afterwards.
+    pub fn end<N: Nodes>(&mut self, nodes: &mut N)
+        requires stands { Stands self.old.walk self.old.stage (N.world nodes.old) }
+        requires open { IsSearching self.old.above self.old.stage }
+        ensures walk { self.new.walk ≡ self.old.walk }
+        ensures above { self.new.above ≡ self.old.above }
+        ensures ended { self.new.stage ≡ Stage.Ended }
+        ensures stepped { Stepped self.old.walk self.new.stage (N.world nodes.old) (N.world nodes.new) }
+        ensures keys { KeepsKeys (N.world nodes.old) (N.world nodes.new) }
+        ensures given_back { HasNone self.old.walk.op (N.world nodes.new) }
+        ensures faults { N.faults nodes.new ≡ N.faults nodes.old }
+    {
+        nodes.free_all(self.walk.op);
+        self.stage = Stage::Ended;
+    }
+}
+
+/// The turn of a search at a stage.
+fn search_step<N: Nodes>(
+    alloc: Global,
+    walk: &Walk,
+    above: bool,
+    stage: Stage,
+    nodes: &mut N,
+) -> (Stage, Turn<()>, Option<Pair>)
+    requires stands { Stands walk.now stage (N.world nodes.old) }
+    requires open { IsSearching above stage }
+    ensures stepped { Stepped walk.now result.0 (N.world nodes.old) (N.world nodes.new) }
+    ensures keys { KeepsKeys (N.world nodes.old) (N.world nodes.new) }
+    ensures found { TellsFound walk.now above result.1 result.2 (N.world nodes.old) }
+    ensures searching { IsSearching above result.0 }
+    ensures busy { OnBusy result.1 (IsInTheWay (N.flushes nodes.old) (N.world nodes.old) walk.now.op) }
+    ensures cause { CausedTurn result.1 (N.faults nodes.old) (N.faults nodes.new) (N.halted nodes.old) (N.halted nodes.new) }
+{
+    if let Stage::Shared { page, above: over } = stage {
+        return look_shared(alloc, walk, over, nodes, page);
+    }
+    let step = find_shared(walk, above, stage, nodes);
+    (step.0, step.1, None)
+}
+
+/// One turn on the way to a leaf that is to be shared.
+fn find_shared<N: Nodes>(walk: &Walk, above: bool, stage: Stage, nodes: &mut N) -> (Stage, Turn<()>)
+    requires stands { Stands walk.now stage (N.world nodes.old) }
+    requires open { IsSeeking above stage }
+    ensures stepped { Stepped walk.now result.0 (N.world nodes.old) (N.world nodes.new) }
+    ensures keys { KeepsKeys (N.world nodes.old) (N.world nodes.new) }
+    ensures going { is_done result.1 ≡ false }
+    ensures searching { IsSearching above result.0 }
+    ensures busy { OnBusy result.1 (IsInTheWay (N.flushes nodes.old) (N.world nodes.old) walk.now.op) }
+    ensures cause { CausedTurn result.1 (N.faults nodes.old) (N.faults nodes.new) (N.halted nodes.old) (N.halted nodes.new) }
+{
+    match stage {
+        Stage::Start => return start(walk, nodes),
+        Stage::Down { page } => return descend(walk, nodes, page),
+        Stage::Leaf { page } => return share_leaf(walk, above, nodes, page),
+        Stage::Share { page, above: over } => return share_next(walk, over, nodes, page),
+        Stage::Held { page: _ } => unreachable!(),
+        Stage::Full { page: _ } => unreachable!(),
+        Stage::Split { page: _, right: _ } => unreachable!(),
+        Stage::Cut { page: _, right: _ } => unreachable!(),
+        Stage::Shared { page: _, above: _ } => unreachable!(),
+        Stage::Ended => unreachable!(),
+    }
+}
 
 /// Shares the leaf that was found.
 pub(crate) fn share_leaf<N: Nodes>(
