@@ -1,22 +1,18 @@
 -- The turns of programs, as what they do to the pairs of each index.
-use Rattle.std.proofs.Common.{◌≡◌, ℕ, Bool, true, false, cond, List, Option, refl, sym, ap, ◌∙◌, subst, inl, inr, ⊎_elim}
+use Rattle.std.proofs.Common.{◌≡◌, Bool, true, false, cond, List, Option, refl, sym, ap, ◌∙◌, subst, ⊎_elim}
 use Rattle.std.specs.Prelude.{IsTrue, ◌⊎◌, if◌then◌else◌}
 use Rattle.std.proofs.lemmas.Bool.{true≢false, false≢true}
-use Rattle.ct_disk.specs.declared.turn.Turn.TheVariants.{Done, More, Busy, Refused}
 use Rattle.ct_definitions.specs.Pairs.{Pair}
 use Rattle.ct_node.specs.declared.root.Root.{Root}
-use Rattle.ct_node.specs.declared.target.Target.{Target}
 use Rattle.ct_node.specs.Worlds.{World}
 use Rattle.ct_tree_laws.specs.declared.walk.Walk.{Walk}
 use Rattle.ct_tree_laws.specs.declared.walk.Stage.{Stage}
 use Rattle.ct_tree_laws.specs.declared.walk.Stage.TheVariants as stage
 use Rattle.ct_tree_laws.specs.Trees.{Chain}
-use Rattle.ct_tree_laws.specs.Stands.{Stands, Stepped, KeepsKeys, ChangesKeys, is_same_root}
+use Rattle.ct_tree_laws.specs.Stands.{KeepsKeys, ChangesKeys, is_same_root}
 use Rattle.ct_tree_laws.proofs.Keys.{same_root}
-use Rattle.ct_tree_laws.proofs.Turns.{stays}
-use Rattle.ct_tree.specs.declared.program.Answer.TheVariants as answer
 use Rattle.ct_tree.specs.Answers.{put_at, take_at, has_at, found_right}
-use Rattle.ct_tree.specs.Schedules.{Task, Puts, Takes, Searches, Happens, is_ended}
+use Rattle.ct_tree.specs.Schedules.{Task, is_ended}
 
 pub stage_ended : (at : Stage) → is_ended at ≡ true → at ≡ stage.Ended
 stage_ended stage.Start is = absurd (false≢true is)

@@ -1,5 +1,5 @@
 -- What a turn's answer says of the pairs, and of who is in the way.
-use Rattle.std.specs.Prelude.{◌≡◌, ℕ, Bool, true, false, List, Option, Some, None, find, ◌⊎◌, ◌&&◌, ◌==◌, not, length, IsTrue}
+use Rattle.std.specs.Prelude.{◌≡◌, ℕ, Bool, true, false, List, Option, Some, find, ◌⊎◌, ◌&&◌, ◌==◌, not, length, IsTrue}
 use Rattle.ct_disk.specs.declared.turn.Turn.{Turn}
 use Rattle.ct_disk.specs.declared.turn.Turn.TheVariants.{Done, More, Busy, Refused}
 use Rattle.ct_latch.specs.declared.hold.Hold.{Hold}

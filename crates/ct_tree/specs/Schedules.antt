@@ -1,5 +1,5 @@
 -- Lists of turns of any operations, and what they do to the pairs of each index.
-use Rattle.std.specs.Prelude.{◌≡◌, ℕ, ◌<◌, List, [], ◌∷◌, ◌++◌, map, length, slice_get, Bool, true, false, Option, Some, None, IsTrue, ◌⊎◌, if◌then◌else◌}
+use Rattle.std.specs.Prelude.{◌≡◌, ℕ, ◌<◌, List, [], ◌∷◌, map, length, slice_get, slice_index, Bool, true, false, Option, Some, None, ◌⊎◌, if◌then◌else◌}
 use Rattle.std.specs.List.{All}
 use Rattle.ct_disk.specs.declared.turn.Turn.{Turn}
 use Rattle.ct_disk.specs.declared.turn.Turn.TheVariants.{Done, More, Busy, Refused}
@@ -10,12 +10,12 @@ use Rattle.ct_node.specs.Worlds.{World}
 use Rattle.ct_tree_laws.specs.declared.walk.Walk.{Walk}
 use Rattle.ct_tree_laws.specs.declared.walk.Stage.{Stage}
 use Rattle.ct_tree_laws.specs.declared.walk.Stage.TheVariants as stage
-use Rattle.ct_tree_laws.specs.Trees.{Chain}
 use Rattle.ct_tree_laws.specs.Stands.{Stands, is_same_root}
 use Rattle.ct_tree.specs.declared.program.Program.{Program}
 use Rattle.ct_tree.specs.declared.program.Program.TheVariants as program
 use Rattle.ct_tree.specs.declared.program.Answer.{Answer}
 use Rattle.ct_tree.specs.declared.program.Answer.TheVariants as answer
+use Rattle.ct_tree.specs.declared.program.Happened.{Happened}
 use Rattle.ct_tree.specs.Answers.{IsPair, put_at, take_at, has_at, found_right, IsPutting, IsTaking, IsSearching}
 
 -- what an operation is to do
@@ -71,3 +71,28 @@ is_ended (stage.Cut page right) = false
 is_ended (stage.Share page above) = false
 is_ended (stage.Shared page above) = false
 is_ended stage.Ended = true
+
+-- all that these operations remember stands
+abbrev pub AllStand : List Program → World → Type 0
+AllStand programs w = All (λ program. Stands (walk_of program) (stage_of program) w) programs
+
+abbrev pub op_of : Program → ℕ
+op_of program = (walk_of program).op
+
+-- no two of these operations have one number
+abbrev pub HaveOwnNumbers : List Program → Type 0
+HaveOwnNumbers programs = (i j : ℕ) → i < length programs → j < length programs → slice_index (map op_of programs) i ≡ slice_index (map op_of programs) j → i ≡ j
+
+-- what happens at a place of a list of tasks
+abbrev pub HappensAt : Root → Option Task → Turn Answer → List Pair → List Pair → Type 0
+HappensAt at None turn keys now = ⊥
+HappensAt at (Some task) turn keys now = Happens at task turn keys now
+
+-- a list of turns leads from these pairs of an index to those, each turn as its task says of the pairs at that point
+abbrev pub Runs : Root → List Task → List Happened → List Pair → List Pair → Type 0
+Runs at tasks [] keys now = now ≡ keys
+Runs at tasks (one ∷ more) keys now = (mid : List Pair) × HappensAt at (slice_get tasks one.program) one.turn keys mid × Runs at tasks more mid now
+
+-- the places of the programs whose turns these were
+abbrev pub places_of : List Happened → List ℕ
+places_of happened = map (λ one. one.program) happened

@@ -4,12 +4,14 @@
 mod descent;
 mod program;
 mod put;
+mod schedule;
 mod search;
 mod split;
 mod take;
 
 pub use ct_tree_laws::{Stage, Walk};
-pub use program::{Answer, Program, turn};
+pub use program::{Answer, Happened, Program, turn};
 pub use put::Put;
+pub use schedule::run;
 pub use search::Search;
 pub use take::Take;

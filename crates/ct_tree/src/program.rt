@@ -35,6 +35,13 @@ pub enum Answer {
     Found(Option<Pair>),
 }
 
+/// A turn of the program at a place.
+#[derive(Drop)]
+pub struct Happened {
+    pub program: usize,
+    pub turn: Turn<Answer>,
+}
+
 /// One turn of an operation. One that has ended does nothing.
 pub fn turn<N: Nodes>(program: &mut Program, nodes: &mut N) -> Turn<Answer>
     requires stands { Stands (walk_of program.old) (stage_of program.old) (N.world nodes.old) }

@@ -41,6 +41,7 @@ pub stepped_by : (walk : Walk) (from to : Stage) (w now : World) → now.founded
 stepped_by walk from to w now same stands step place = record {
   stands = λ founded. let here = stands (sym same ∙ founded) in stands_after walk from to w now here (step here) (place here);
   keeps = Keeps-step walk.op w now same (λ founded. step (stands founded));
+  founded = same;
 }
 
 abbrev pub freed : ℕ → ℕ → World → World

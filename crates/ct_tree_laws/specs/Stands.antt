@@ -68,6 +68,7 @@ Keeps op w now = (other : Walk) (stage : Stage) → (other.op ≡ op → ⊥) �
 pub record Stepped (walk : Walk) (to : Stage) (w now : World) : Type 0 where
   pub stands : Stands walk to now
   pub keeps : Keeps walk.op w now
+  pub founded : now.founded ≡ w.founded
 
 -- whether two indexes are the same
 abbrev pub is_same_root : Root → Root → Bool

@@ -1,7 +1,5 @@
-use Rattle.std.proofs.Common.{◌≡◌, true, false, sym, ◌∙◌}
+use Rattle.std.proofs.Common.{◌≡◌}
 use Rattle.ct_node.specs.Worlds.{Holds, page_at}
-use Rattle.ct_node.specs.Turns.{OnDone}
-use Rattle.ct_tree.specs.Answers.{is_done}
 use Rattle.ct_tree_laws.proofs.Turns.{descend_right, descend_down, descend_here, descend_end, descend_bad}
 use Rattle.ct_tree.proofs.Done.{when_done}
 use Rattle.ct_tree.proofs.descent.descend.Goals as goal

@@ -1,4 +1,4 @@
-use Rattle.std.proofs.Common.{◌≡◌, None, true}
+use Rattle.std.proofs.Common.{true}
 use Rattle.std.specs.Prelude.{find}
 use Rattle.ct_latch.specs.Latches.{bars, with_hold}
 use Rattle.ct_node.specs.Worlds.{with_holds}

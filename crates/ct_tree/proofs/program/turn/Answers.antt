@@ -1,4 +1,3 @@
-use Rattle.std.proofs.Common.{◌≡◌}
 use Rattle.ct_tree.proofs.program.turn.Goals as goal
 
 pub returns-in-Put-clause-happens : goal.returns-in-Put-clause-happens

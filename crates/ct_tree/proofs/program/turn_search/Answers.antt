@@ -1,8 +1,8 @@
-use Rattle.std.proofs.Common.{◌≡◌, true, false, refl, sym, subst, inl, inr}
-use Rattle.ct_tree.specs.Schedules.{Puts, Takes, Searches}
-use Rattle.ct_tree.specs.Answers.{IsPutting, IsTaking, IsSearching}
+use Rattle.std.proofs.Common.{refl}
+use Rattle.ct_tree.specs.Schedules.{Searches}
+use Rattle.ct_tree.specs.Answers.{IsSearching}
 use Rattle.ct_tree_laws.proofs.Turns.{stays}
-use Rattle.ct_tree.proofs.Programs.{stage_ended, not_ended, kept_goes, same_goes, search_ends}
+use Rattle.ct_tree.proofs.Programs.{not_ended, kept_goes, same_goes, search_ends}
 use Rattle.ct_tree.proofs.program.turn_search.Goals as goal
 
 pub returns-then-is_ended-clause-stepped : goal.returns-then-is_ended-clause-stepped

@@ -1,8 +1,8 @@
-use Rattle.std.proofs.Common.{◌≡◌, true, false, refl, sym, subst, inl, inr}
-use Rattle.ct_tree.specs.Schedules.{Puts, Takes, Searches}
-use Rattle.ct_tree.specs.Answers.{IsPutting, IsTaking, IsSearching}
+use Rattle.std.proofs.Common.{refl}
+use Rattle.ct_tree.specs.Schedules.{Takes}
+use Rattle.ct_tree.specs.Answers.{IsTaking}
 use Rattle.ct_tree_laws.proofs.Turns.{stays}
-use Rattle.ct_tree.proofs.Programs.{stage_ended, not_ended, kept_goes, same_goes, take_ends}
+use Rattle.ct_tree.proofs.Programs.{not_ended, kept_goes, same_goes, take_ends}
 use Rattle.ct_tree.proofs.program.turn_take.Goals as goal
 
 pub returns-then-is_ended-clause-stepped : goal.returns-then-is_ended-clause-stepped

@@ -1,7 +1,7 @@
-use Rattle.std.proofs.Common.{◌≡◌, true, false, sym, ap, subst}
+use Rattle.std.proofs.Common.{◌≡◌}
 use Rattle.ct_node.specs.Worlds.{Holds, page_at}
 use Rattle.ct_tree_laws.specs.declared.walk.Stage.TheVariants as stage
-use Rattle.ct_tree_laws.proofs.PutTurns.{held_right, freed_keys, held_not_down}
+use Rattle.ct_tree_laws.proofs.PutTurns.{held_right, freed_keys}
 use Rattle.ct_tree.proofs.Done.{when_done}
 use Rattle.ct_tree.proofs.put.put_held.Goals as goal
 

@@ -1,6 +1,5 @@
-use Rattle.std.proofs.Common.{◌≡◌, ◌+◌, true, false, sym, refl, ap, ◌∙◌, subst}
-use Rattle.std.proofs.lemmas.Bool.{false≢true}
-use Rattle.ct_node.specs.Worlds.{Holds, page_at, edited, Puts}
+use Rattle.std.proofs.Common.{sym, refl, subst}
+use Rattle.ct_node.specs.Worlds.{edited, Puts}
 use Rattle.ct_tree_laws.specs.Stands.{ChangesKeys}
 use Rattle.ct_tree.specs.Answers.{put_at}
 use Rattle.ct_tree_laws.proofs.Turns.{not_founded}

@@ -1,6 +1,6 @@
-use Rattle.std.proofs.Common.{◌≡◌, ◌≤◌, length, true, false, sym, refl, arith, ◌∙◌, ap, subst, Some, None}
+use Rattle.std.proofs.Common.{◌≡◌, ◌≤◌, length, sym, refl, arith, ◌∙◌, ap, subst}
 use Rattle.std.specs.Prelude.{slice_get}
-use Rattle.std.specs.List.{prefix_len, AllPass}
+use Rattle.std.specs.List.{AllPass}
 use Rattle.std.proofs.lemmas.List.{length-map}
 use Rattle.ct_node.specs.Nodes.{pairs_in, pair_in}
 use Rattle.ct_node.specs.Places.{is_ahead}

@@ -1,4 +1,4 @@
-use Rattle.std.proofs.Common.{◌≡◌, ◌<◌, length, true, false, arith, refl}
+use Rattle.std.proofs.Common.{◌≡◌, ◌<◌, length, arith, refl}
 use Rattle.ct_node.specs.Worlds.{Holds, page_at, edited, Cuts}
 use Rattle.ct_tree_laws.proofs.SplitTurns.{cut_enough, cuts_left, cut_is_tidy, cut_stepped, cut_keys}
 use Rattle.ct_tree.proofs.Done.{when_done, after_done}

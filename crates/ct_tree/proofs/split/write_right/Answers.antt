@@ -1,4 +1,4 @@
-use Rattle.std.proofs.Common.{◌≡◌, ◌<◌, length, true, false, arith, refl}
+use Rattle.std.proofs.Common.{◌≡◌, ◌<◌, length, arith, refl}
 use Rattle.ct_node.specs.Worlds.{Holds, page_at, edited, Right}
 use Rattle.ct_tree_laws.proofs.SplitTurns.{split_enough, writes_right, write_stepped, write_keys}
 use Rattle.ct_tree.proofs.Done.{when_done, after_done}

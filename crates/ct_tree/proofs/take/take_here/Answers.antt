@@ -1,5 +1,5 @@
-use Rattle.std.proofs.Common.{◌≡◌, ◌+◌, true, false, sym, refl, ap, ◌∙◌, subst}
-use Rattle.ct_node.specs.Worlds.{Holds, page_at, edited, Takes}
+use Rattle.std.proofs.Common.{◌≡◌, true, false, sym, refl, ◌∙◌, subst}
+use Rattle.ct_node.specs.Worlds.{edited, Takes}
 use Rattle.ct_node.specs.Nodes.{pairs_in, has_pair}
 use Rattle.ct_tree_laws.specs.Stands.{ChangesKeys}
 use Rattle.ct_tree.specs.Answers.{take_at, has_at}
