@@ -6,6 +6,7 @@ use Rattle.ct_disk.specs.declared.turn.Turn.TheVariants.{Done, More, Busy, Refus
 use Rattle.ct_definitions.specs.Pairs.{Pair}
 use Rattle.ct_node.specs.declared.root.Root.{Root}
 use Rattle.ct_node.specs.declared.target.Target.{Target}
+use Rattle.ct_node.specs.declared.target.Target.TheVariants.{At}
 use Rattle.ct_node.specs.Worlds.{World}
 use Rattle.ct_tree_laws.specs.declared.walk.Walk.{Walk}
 use Rattle.ct_tree_laws.specs.declared.walk.Stage.{Stage}
@@ -96,3 +97,10 @@ Runs at tasks (one ∷ more) keys now = (mid : List Pair) × HappensAt at (slice
 -- the places of the programs whose turns these were
 abbrev pub places_of : List Happened → List ℕ
 places_of happened = map (λ one. one.program) happened
+
+-- an operation that begins on the index of new pages in memory, with a key of its length
+pub record IsNew (key_len : ℕ) (program : Program) : Type 0 where
+  pub at : (walk_of program).at ≡ record { page = 0; index = 0 }
+  pub starts : stage_of program ≡ stage.Start
+  pub ready : IsReady program
+  pub key : (pair : Pair) → (walk_of program).target ≡ At pair → length pair.key ≡ key_len

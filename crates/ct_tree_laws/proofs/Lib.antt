@@ -14,3 +14,4 @@ pub mod PutTurns
 pub mod SplitTurns
 pub mod SearchTurns
 pub mod Finds
+pub mod NewTree
