@@ -11,3 +11,5 @@ pub mod PageLemmas
 pub mod Readings
 pub mod Writings
 pub mod Repositions
+pub mod PairAt
+pub mod MemLemmas

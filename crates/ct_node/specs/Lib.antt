@@ -5,4 +5,7 @@ pub mod Stored
 pub mod Halves
 pub mod Pages
 pub mod Roles
+pub mod Worlds
+pub mod Turns
+pub mod MemWorlds
 pub use Rattle.ct_definitions.specs.Pairs

@@ -10,6 +10,8 @@ ghost use Rattle.ct_node.specs.Cells.{cells_of, pair_at, pair_bytes, entry_bytes
 ghost use Rattle.ct_node.specs.Places.{is_before};
 
 use crate::pair::Pair;
+use ct_key::KeyBuf;
+use std::alloc::Global;
 use std::cmp::Ordering;
 
 /// The number in the eight bytes from a place on, the high byte first.
@@ -30,6 +32,18 @@ pub(crate) fn page_at(bytes: &[u8], at: usize) -> u64
     let mut number = [0; 8];
     number.copy_from_slice(&bytes[at..at + 8]);
     u64::from_le_bytes(number)
+}
+
+/// The key in the bytes from a place on.
+pub(crate) fn key_at(alloc: Global, bytes: &[u8], at: usize, key_len: usize) -> KeyBuf
+    requires key { key_len ≤ 128 }
+    requires within { at + key_len ≤ length bytes.now }
+    ensures { result ≡ take key_len (drop at bytes.now) }
+{
+    match KeyBuf::from_slice(alloc, &bytes[at..at + key_len]) {
+        Ok(key) => key,
+        Err(_refused) => unreachable!(),
+    }
 }
 
 /// How the pair from a place on compares with another.

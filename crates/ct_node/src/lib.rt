@@ -8,15 +8,21 @@ mod cells;
 mod check;
 mod edge;
 mod laws;
+mod mem_nodes;
 mod node;
+mod nodes;
 #[cfg(test)]
 mod page_tests;
 mod pair;
+mod root;
 mod target;
 #[cfg(test)]
 mod tests;
 
 pub use laws::{node_pages_are_exact, positions_keep_nodes};
+pub use mem_nodes::MemNodes;
 pub use node::Node;
+pub use nodes::Nodes;
 pub use pair::Pair;
+pub use root::{IndexRow, Mark, Owner, Root};
 pub use target::{Place, Target};

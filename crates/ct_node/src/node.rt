@@ -17,13 +17,15 @@ ghost use Rattle.ct_node.specs.Pages.{node_in, header_in, page_text};
 
 use crate::bounds::{cells_at, high_at, read_bound, write_bound};
 use crate::cells::{
-    cmp_at, copy_cells, count_before, insert_entry, page_at, remove_cell, width_of, write_at,
+    cmp_at, copy_cells, count_before, insert_entry, key_at, page_at, record_at, remove_cell,
+    width_of, write_at,
 };
 use crate::check::{count_in, is_leaf, is_node_page, key_len_in};
 use crate::edge::{Edge, first_of};
 use crate::pair::Pair;
 use crate::target::{Place, Target};
 use ct_page::{HEADER_SIZE, Header, PAGE_SIZE, PageKind, u16_at, u64_at};
+use std::alloc::Global;
 use std::marker::Model;
 
 /// How many bytes of a page a node has for its bounds and entries.
@@ -312,6 +314,34 @@ impl Node {
         true
     }
 
+    /// The pair at a place. It takes no memory.
+    pub fn pair(&self, alloc: Global, place: usize) -> Pair
+        requires { place < length self.now.entries }
+        ensures { slice_get (pairs_in self.now) place ≡ Some result }
+    {
+        let width = width_of(self.key_len, self.leaf);
+        let start = place * width;
+        let key = key_at(alloc, self.cells.as_slice(), start, self.key_len);
+        let num = record_at(self.cells.as_slice(), start + self.key_len);
+        Pair { key, num }
+    }
+
+    /// Makes another node a copy of this one. What the other was is gone.
+    pub fn copy_into(&self, into: &mut Node)
+        ensures { into.new ≡ self.now }
+    {
+        into.file = self.file;
+        into.index = self.index;
+        into.leaf = self.leaf;
+        into.key_len = self.key_len;
+        into.low = self.low;
+        into.high = self.high;
+        into.right = self.right;
+        into.count = self.count;
+        let cells = self.cells;
+        into.cells = cells;
+    }
+
     /// Makes another node the one to the right of this: from the middle pair on, up to the bound and
     /// the right link of this one. What the other was is gone.
     pub fn upper_half(&self, into: &mut Node)
@@ -377,7 +407,7 @@ impl Node {
     }
 
     /// How many pairs are below a target, or at it where that counts.
-    fn count_ahead(&self, target: &Target, or_at: bool) -> usize
+    pub fn count_ahead(&self, target: &Target, or_at: bool) -> usize
         ensures { result ≡ prefix_len (is_ahead or_at target.now) (pairs_in self.now) }
     {
         match target {

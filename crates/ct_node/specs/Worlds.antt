@@ -1,0 +1,174 @@
+-- The pages that nodes stand in, who holds them, and the edits that an operation may make.
+use Rattle.std.specs.Prelude.{◌≡◌, ℕ, ◌+◌, ◌<◌, ◌≤◌, ◌==◌, List, [], ◌∷◌, ◌++◌, length, filter, slice_get, slice_index_or, slice_set, Bool, true, false, not, ◌&&◌, ◌||◌, Option, Some, None, IsTrue}
+use Rattle.std.specs.List.{list_any}
+use Rattle.ct_latch.specs.declared.hold.Hold.{Hold}
+use Rattle.ct_latch.specs.Latches.{is_of}
+use Rattle.ct_definitions.specs.Pairs.{Pair}
+use Rattle.ct_node.specs.declared.root.Root.{Root}
+use Rattle.ct_node.specs.declared.root.Mark.{Mark}
+use Rattle.ct_node.specs.declared.root.IndexRow.{IndexRow}
+use Rattle.ct_node.specs.declared.root.Owner.{Owner}
+use Rattle.ct_node.specs.Nodes.{Entry, NodeValue, IsNode, pairs_in, has_pair, is_within, with_entry, has_other_pair}
+use Rattle.ct_node.specs.Halves.{upper_half, lower_half}
+
+-- what a definition page tells: its file, and a row for each index
+pub record DefinitionValue : Type 0 where
+  pub file : ℕ
+  pub rows : List IndexRow
+
+-- what stands in a page: nothing yet, a definition or a node
+pub data PageValue : Type 0 where
+  Blank : PageValue
+  Defines : DefinitionValue → PageValue
+  Holds : NodeValue → PageValue
+
+-- the pages, the latches on them, the pages that no link reaches yet, and whether all of it was made by operations alone: an index that is read from a device may be damaged
+pub record World : Type 0 where
+  pub pages : List PageValue
+  pub holds : List Hold
+  pub fresh : List Owner
+  pub founded : Bool
+
+-- what stands in the page of a number; one past the last is blank
+abbrev pub page_at : World → ℕ → PageValue
+page_at w page = slice_index_or w.pages page Blank
+
+-- whether a hold is one that this operation has on this page for itself
+abbrev pub is_own_of : ℕ → ℕ → Hold → Bool
+is_own_of op page hold = is_of page op hold && hold.own
+
+-- whether an operation has a latch on a page
+abbrev pub has_latch : ℕ → ℕ → World → Bool
+has_latch op page w = list_any (is_of page op) w.holds
+
+-- whether an operation has a page for itself
+abbrev pub has_own : ℕ → ℕ → World → Bool
+has_own op page w = list_any (is_own_of op page) w.holds
+
+-- whether this page belongs to this operation
+abbrev pub is_owner : ℕ → ℕ → Owner → Bool
+is_owner op page owner = owner.page == page && owner.op == op
+
+-- whether an operation allocated a page that no link reaches yet
+abbrev pub has_fresh : ℕ → ℕ → World → Bool
+has_fresh op page w = list_any (is_owner op page) w.fresh
+
+-- whether a page was allocated and is reached by no link yet
+abbrev pub is_fresh : ℕ → World → Bool
+is_fresh page w = list_any (λ owner. owner.page == page) w.fresh
+
+-- the world with a new page of an operation, which is the next after the last
+abbrev pub with_fresh : ℕ → World → World
+with_fresh op w = record w { pages = w.pages ++ Blank ∷ []; fresh = record { page = length w.pages; op = op } ∷ w.fresh }
+
+-- the world with other latches
+abbrev pub with_holds : List Hold → World → World
+with_holds holds w = record w { holds = holds }
+
+-- the world with another node in a page; a page of the operation that this node links to is reached by a link from now on
+abbrev pub edited : ℕ → ℕ → NodeValue → World → World
+edited op page node w = record w { pages = slice_set w.pages page (Holds node); fresh = filter (λ owner. not (is_owner op node.right owner)) w.fresh }
+
+-- no step of any transaction
+abbrev pub no_mark : Mark
+no_mark = record { tran = 0; steps = 0 }
+
+-- the operation has the page of a node for itself, and links reach it and the page to its right
+pub record IsHeld (op page : ℕ) (node : NodeValue) (w : World) : Type 0 where
+  pub is : page_at w page ≡ Holds node
+  pub owned : has_own op page w ≡ true
+  pub linked : is_fresh page w ≡ false
+  pub onward : is_fresh node.right w ≡ false
+
+-- a leaf with one more pair
+pub record PutsPair (op page : ℕ) (new : NodeValue) (w : World) : Type 0 where
+  pub node : NodeValue
+  pub pair : Pair
+  pub held : IsHeld op page node w
+  pub leaf : node.leaf ≡ true
+  pub key : length pair.key ≡ node.key_len
+  pub absent : has_pair pair (pairs_in node) ≡ false
+  pub within : is_within node.low node.high pair ≡ true
+  pub sound : IsNode new
+  pub made : new ≡ record node { entries = with_entry (record { pair = pair; child = 0 }) node.entries }
+
+-- a leaf without one of its pairs
+pub record TakesPair (op page : ℕ) (new : NodeValue) (w : World) : Type 0 where
+  pub node : NodeValue
+  pub pair : Pair
+  pub held : IsHeld op page node w
+  pub leaf : node.leaf ≡ true
+  pub within : is_within node.low node.high pair ≡ true
+  pub sound : IsNode new
+  pub made : new ≡ record node { entries = filter (has_other_pair pair) node.entries }
+
+-- the upper half of a leaf, in a page of the operation that holds nothing yet
+pub record WritesRight (op page : ℕ) (new : NodeValue) (w : World) : Type 0 where
+  pub from : ℕ
+  pub node : NodeValue
+  pub held : IsHeld op from node w
+  pub leaf : node.leaf ≡ true
+  pub enough : 2 ≤ length node.entries
+  pub blank : page_at w page ≡ Blank
+  pub mine : has_fresh op page w ≡ true
+  pub made : new ≡ upper_half node
+
+-- the lower half of a leaf, linked to the page that has the upper one
+pub record CutsLeft (op page : ℕ) (new : NodeValue) (w : World) : Type 0 where
+  pub node : NodeValue
+  pub right : ℕ
+  pub held : IsHeld op page node w
+  pub leaf : node.leaf ≡ true
+  pub enough : 2 ≤ length node.entries
+  pub sound : IsNode node
+  pub mine : has_fresh op right w ≡ true
+  pub upper : page_at w right ≡ Holds (upper_half node)
+  pub made : new ≡ lower_half right node
+
+-- the edits that an operation may make: one pair of a leaf that it has for itself, which may be a step of a transaction, and the two writes of a split
+pub data Move (op page : ℕ) (new : NodeValue) (mark : Mark) (w : World) : Type 0 where
+  Puts : PutsPair op page new w → Move op page new mark w
+  Takes : TakesPair op page new w → Move op page new mark w
+  Right : mark ≡ no_mark → WritesRight op page new w → Move op page new mark w
+  Cuts : mark ≡ no_mark → CutsLeft op page new w → Move op page new mark w
+
+-- an operation has no page that is written and that no link reaches yet
+abbrev pub IsTidy : ℕ → World → Type 0
+IsTidy op w = (page : ℕ) → has_fresh op page w ≡ true → page_at w page ≡ Blank
+
+-- the row of an index with another root
+abbrev pub with_root : ℕ → Option IndexRow → IndexRow
+with_root page None = record { root = page; first = 0; key_len = 0 }
+with_root page (Some row) = record row { root = page }
+
+-- a definition page with another root of one of its indexes
+abbrev pub rooted_page : ℕ → ℕ → PageValue → PageValue
+rooted_page index page Blank = Blank
+rooted_page index page (Defines def) = Defines (record def { rows = slice_set def.rows index (with_root page (slice_get def.rows index)) })
+rooted_page index page (Holds node) = Holds node
+
+-- the world with another root of an index; that page is reached by a link from now on
+abbrev pub rooted : ℕ → Root → ℕ → World → World
+rooted op at page w = record w { pages = slice_set w.pages at.page (rooted_page at.index page (page_at w at.page)); fresh = filter (λ owner. not (is_owner op page owner)) w.fresh }
+
+-- the row of an index, where its definition page tells one
+abbrev pub row_in : ℕ → PageValue → Option IndexRow
+row_in index Blank = None
+row_in index (Defines def) = slice_get def.rows index
+row_in index (Holds node) = None
+
+-- a new root may be named: the operation has the definition page for itself, and a page of its own with a node that leads to the old root first
+pub record RaisesRoot (op : ℕ) (at : Root) (page : ℕ) (w : World) : Type 0 where
+  pub row : IndexRow
+  pub node : NodeValue
+  pub first : Entry
+  pub rest : List Entry
+  pub is : row_in at.index (page_at w at.page) ≡ Some row
+  pub owned : has_own op at.page w ≡ true
+  pub mine : has_fresh op page w ≡ true
+  pub held : page_at w page ≡ Holds node
+  pub inner : node.leaf ≡ false
+  pub low : node.low ≡ None
+  pub high : node.high ≡ None
+  pub above : node.entries ≡ first ∷ rest
+  pub old : first.child ≡ row.root

@@ -1,0 +1,170 @@
+-- What is known where a call was done, and where it was not.
+use Rattle.std.proofs.Common.{◌≡◌, ℕ, Bool, true, false, ◌&&◌, eqb, length, Option, None, sym, refl}
+use Rattle.std.specs.Prelude.{IsTrue}
+use Rattle.std.proofs.lemmas.Bool.{false≢true, true≢false, and_from, and_parts, eq-eqb, eqb-true}
+use Rattle.ct_latch.specs.declared.hold.Hold.{Hold}
+use Rattle.ct_definitions.specs.Pairs.{Pair}
+use Rattle.ct_node.specs.Nodes.{NodeValue, is_within}
+use Rattle.ct_disk.specs.declared.turn.HaltCause.{HaltCause}
+use Rattle.ct_disk.specs.declared.turn.Turn.{Turn}
+use Rattle.ct_disk.specs.declared.turn.Turn.TheVariants.{Done, More, Busy, Refused}
+use Rattle.ct_node.specs.Worlds.{World, IsTidy}
+use Rattle.ct_tree_laws.specs.declared.walk.Walk.{Walk}
+use Rattle.ct_tree_laws.specs.declared.walk.Stage.{Stage}
+use Rattle.ct_tree_laws.specs.declared.walk.Stage.TheVariants as stage
+use Rattle.ct_tree_laws.specs.Stands.{KeepsKeys, Stands}
+use Rattle.ct_node.specs.Turns.{OnDone, OnBusy, After, LatchedBy, CausedTurn}
+use Rattle.ct_tree.specs.Answers.{is_done, is_for, PutsKeys, IsPutting, GoesOn, answer_with, TakeGoesOn, TakesKeys, TakenKeys, TellsTaken, IsTaken, TellsFound, IsFound, IsTaking, IsFinding, IsSearching, IsSeeking}
+
+pub when_done : (turn : Turn (Unit {0})) (P : Unit {0} → Type 0) → is_done turn ≡ true → OnDone turn P → P tt
+when_done (Done answer) P done is = is
+when_done More P done is = absurd (false≢true done)
+when_done (Busy op) P done is = absurd (false≢true done)
+when_done (Refused fault) P done is = absurd (false≢true done)
+
+pub after_done : (turn : Turn (Unit {0})) (changed : Unit {0} → World) (w now : World) → is_done turn ≡ true → After turn changed w now → now ≡ changed tt
+after_done (Done answer) changed w now done is = is
+after_done More changed w now done is = absurd (false≢true done)
+after_done (Busy op) changed w now done is = absurd (false≢true done)
+after_done (Refused fault) changed w now done is = absurd (false≢true done)
+
+pub after_other : (turn : Turn (Unit {0})) (changed : Unit {0} → World) (w now : World) → is_done turn ≡ false → After turn changed w now → now ≡ w
+after_other (Done answer) changed w now other is = absurd (true≢false other)
+after_other More changed w now other is = is
+after_other (Busy op) changed w now other is = is
+after_other (Refused fault) changed w now other is = is
+
+pub free_when_done : (turn : Turn (Unit {0})) (barring : Option Hold) → is_done turn ≡ true → LatchedBy turn barring → barring ≡ None
+free_when_done (Done answer) barring done is = is
+free_when_done More barring done is = absurd (false≢true done)
+free_when_done (Busy op) barring done is = absurd (false≢true done)
+free_when_done (Refused fault) barring done is = absurd (false≢true done)
+
+-- a node that a pair may stand in
+pub is_for_from : (node : NodeValue) (pair : Pair) → node.leaf ≡ true → node.key_len ≡ length pair.key → is_within node.low node.high pair ≡ true → is_for node pair ≡ true
+is_for_from node pair leaf key within = and_from (node.leaf && eqb node.key_len (length pair.key)) (is_within node.low node.high pair) (and_from node.leaf (eqb node.key_len (length pair.key)) leaf (eq-eqb node.key_len (length pair.key) key)) within
+
+pub is_for_parts : (node : NodeValue) (pair : Pair) → is_for node pair ≡ true → (node.leaf ≡ true) × (length pair.key ≡ node.key_len) × (is_within node.low node.high pair ≡ true)
+is_for_parts node pair is =
+    let first = and_parts (node.leaf && eqb node.key_len (length pair.key)) (is_within node.low node.high pair) is in
+    let second = and_parts node.leaf (eqb node.key_len (length pair.key)) first.0 in
+    (second.0, sym (eqb-true node.key_len (length pair.key) second.1), first.1)
+
+-- a turn that goes on changes no pair
+pub puts_going : (walk : Walk) (turn : Turn (Unit {0})) (w now : World) → is_done turn ≡ false → KeepsKeys w now → PutsKeys walk turn w now
+puts_going walk (Done answer) w now going keeps = absurd (true≢false going)
+puts_going walk More w now going keeps = keeps
+puts_going walk (Busy op) w now going keeps = keeps
+puts_going walk (Refused fault) w now going keeps = keeps
+
+pub goes_going : (turn : Turn (Unit {0})) (to : Stage) → is_done turn ≡ false → IsPutting to → GoesOn turn to
+goes_going (Done answer) to going is = absurd (true≢false going)
+goes_going More to going is = is
+goes_going (Busy op) to going is = is
+goes_going (Refused fault) to going is = is
+
+pub caused_done : (turn : Turn (Unit {0})) (before after : ℕ) (halted halts : Option HaltCause) → is_done turn ≡ true → CausedTurn turn before after halted halts → (after ≡ before) × (halts ≡ halted)
+caused_done (Done answer) before after halted halts done is = is
+caused_done More before after halted halts done is = absurd (false≢true done)
+caused_done (Busy op) before after halted halts done is = absurd (false≢true done)
+caused_done (Refused fault) before after halted halts done is = absurd (false≢true done)
+
+-- what is known of a turn, once its answer tells more
+pub caused_with : {T : Type 0} (turn : Turn (Unit {0})) (told : T) (before after : ℕ) (halted halts : Option HaltCause) → CausedTurn turn before after halted halts → CausedTurn (answer_with turn told) before after halted halts
+caused_with (Done answer) told before after halted halts is = is
+caused_with More told before after halted halts is = is
+caused_with (Busy op) told before after halted halts is = is
+caused_with (Refused fault) told before after halted halts is = is
+
+pub busy_with : {T : Type 0} (turn : Turn (Unit {0})) (told : T) (P : ℕ → Type 0) → OnBusy turn P → OnBusy (answer_with turn told) P
+busy_with (Done answer) told P is = is
+busy_with More told P is = is
+busy_with (Busy op) told P is = is
+busy_with (Refused fault) told P is = is
+
+pub goes_with : {T : Type 0} (turn : Turn (Unit {0})) (told : T) (to : Stage) → TakeGoesOn turn to → TakeGoesOn (answer_with turn told) to
+goes_with (Done answer) told to is = is
+goes_with More told to is = is
+goes_with (Busy op) told to is = is
+goes_with (Refused fault) told to is = is
+
+pub taken_keys_with : (walk : Walk) (turn : Turn (Unit {0})) (told : Bool) (w now : World) → TakesKeys walk turn w now → TakenKeys walk (answer_with turn told) w now
+taken_keys_with walk (Done answer) told w now is = is
+taken_keys_with walk More told w now is = is
+taken_keys_with walk (Busy op) told w now is = is
+taken_keys_with walk (Refused fault) told w now is = is
+
+pub taken_with : (walk : Walk) (turn : Turn (Unit {0})) (told : Bool) (w : World) → TellsTaken walk turn told w → IsTaken walk (answer_with turn told) w
+taken_with walk (Done answer) told w is = is
+taken_with walk More told w is = is
+taken_with walk (Busy op) told w is = is
+taken_with walk (Refused fault) told w is = is
+
+pub found_with : (walk : Walk) (above : Bool) (turn : Turn (Unit {0})) (told : Option Pair) (w : World) → TellsFound walk above turn told w → IsFound walk above (answer_with turn told) w
+found_with walk above (Done answer) told w is = is
+found_with walk above More told w is = is
+found_with walk above (Busy op) told w is = is
+found_with walk above (Refused fault) told w is = is
+
+-- a turn that goes on takes nothing, finds nothing and has not ended
+pub takes_going : (walk : Walk) (turn : Turn (Unit {0})) (w now : World) → is_done turn ≡ false → KeepsKeys w now → TakesKeys walk turn w now
+takes_going walk (Done answer) w now going keeps = absurd (true≢false going)
+takes_going walk More w now going keeps = keeps
+takes_going walk (Busy op) w now going keeps = keeps
+takes_going walk (Refused fault) w now going keeps = keeps
+
+pub taken_going : (walk : Walk) (turn : Turn (Unit {0})) (told : Bool) (w : World) → is_done turn ≡ false → TellsTaken walk turn told w
+taken_going walk (Done answer) told w going = absurd (true≢false going)
+taken_going walk More told w going = tt
+taken_going walk (Busy op) told w going = tt
+taken_going walk (Refused fault) told w going = tt
+
+pub found_going : (walk : Walk) (above : Bool) (turn : Turn (Unit {0})) (told : Option Pair) (w : World) → is_done turn ≡ false → TellsFound walk above turn told w
+found_going walk above (Done answer) told w going = absurd (true≢false going)
+found_going walk above More told w going = tt
+found_going walk above (Busy op) told w going = tt
+found_going walk above (Refused fault) told w going = tt
+
+pub take_goes_going : (turn : Turn (Unit {0})) (to : Stage) → is_done turn ≡ false → IsTaking to → TakeGoesOn turn to
+take_goes_going (Done answer) to going is = absurd (true≢false going)
+take_goes_going More to going is = is
+take_goes_going (Busy op) to going is = is
+take_goes_going (Refused fault) to going is = is
+
+-- the stages but the one that holds a leaf are on the way to it
+pub finding_from : (at : Stage) → IsTaking at → ((page : ℕ) → at ≡ stage.Held page → ⊥) → IsFinding at
+finding_from stage.Start is other = tt
+finding_from (stage.Down page) is other = tt
+finding_from (stage.Leaf page) is other = tt
+finding_from (stage.Held page) is other = other page refl
+finding_from (stage.Full page) is other = is
+finding_from (stage.Split page right) is other = is
+finding_from (stage.Cut page right) is other = is
+finding_from (stage.Share page above) is other = is
+finding_from (stage.Shared page above) is other = is
+finding_from stage.Ended is other = is
+
+pub seeking_from : (above : Bool) (at : Stage) → IsSearching above at → ((page : ℕ) (over : Bool) → at ≡ stage.Shared page over → ⊥) → IsSeeking above at
+seeking_from above stage.Start is other = tt
+seeking_from above (stage.Down page) is other = tt
+seeking_from above (stage.Leaf page) is other = tt
+seeking_from above (stage.Held page) is other = is
+seeking_from above (stage.Full page) is other = is
+seeking_from above (stage.Split page right) is other = is
+seeking_from above (stage.Cut page right) is other = is
+seeking_from above (stage.Share page over) is other = is
+seeking_from above (stage.Shared page over) is other = other page over refl
+seeking_from above stage.Ended is other = is
+
+-- a search has no page that is written and reached by no link
+pub search_tidy : (walk : Walk) (above : Bool) (at : Stage) (w : World) → IsSearching above at → Stands walk at w → IsTrue w.founded → IsTidy walk.op w
+search_tidy walk above stage.Start w is stands founded = (stands founded).place
+search_tidy walk above (stage.Down page) w is stands founded = (stands founded).place.0
+search_tidy walk above (stage.Leaf page) w is stands founded = (stands founded).place.0
+search_tidy walk above (stage.Held page) w is stands founded = absurd is
+search_tidy walk above (stage.Full page) w is stands founded = absurd is
+search_tidy walk above (stage.Split page right) w is stands founded = absurd is
+search_tidy walk above (stage.Cut page right) w is stands founded = absurd is
+search_tidy walk above (stage.Share page over) w is stands founded = (stands founded).place.0
+search_tidy walk above (stage.Shared page over) w is stands founded = (stands founded).place.0
+search_tidy walk above stage.Ended w is stands founded = absurd is

@@ -1,0 +1,4 @@
+pub mod Done
+pub mod Programs
+pub mod Lists
+pub mod News

@@ -1,0 +1,105 @@
+-- A list of programs after the turn of one of them, and a list of what happened.
+use Rattle.std.proofs.Common.{◌≡◌, ℕ, ◌+◌, ◌<◌, ◌≤◌, List, [], ◌∷◌, ◌++◌, length, map, set, get_or, take, refl, sym, ap, ◌∙◌, arith, subst, ⊎_elim, Some}
+use Rattle.std.specs.Prelude.{IsTrue, slice_get}
+use Rattle.std.specs.List.{All}
+use Rattle.std.proofs.lemmas.Bool.{cases_eq}
+use Rattle.std.proofs.lemmas.List.{map-set, get_or-map, set-get_or, get_or-set_same, get_or-set_other, length-set, length-map, length_push, map_push, take_more}
+use Rattle.std.proofs.lemmas.Option.{slice_get-get_or}
+use Rattle.ct_disk.specs.declared.turn.Turn.{Turn}
+use Rattle.ct_definitions.specs.Pairs.{Pair}
+use Rattle.ct_node.specs.declared.root.Root.{Root}
+use Rattle.ct_node.specs.Worlds.{World}
+use Rattle.ct_tree_laws.specs.Trees.{Chain}
+use Rattle.ct_tree_laws.specs.Stands.{Stands, Stepped}
+use Rattle.ct_tree.specs.declared.program.Program.{Program}
+use Rattle.ct_tree.specs.declared.program.Answer.{Answer}
+use Rattle.ct_tree.specs.declared.program.Happened.{Happened}
+use Rattle.ct_tree.specs.Schedules.{Task, walk_of, stage_of, task_of, op_of, IsReady, AllStand, HaveOwnNumbers, Happens, HappensAt, Runs, places_of}
+
+-- what the turn of one leaves of it stays of all
+pub map-turned : {B : Type 0} (f : Program → B) (programs : List Program) (place : ℕ) (p q : Program) → place < length programs → p ≡ get_or programs place p → f q ≡ f p → map f (set programs place q) ≡ map f programs
+map-turned f programs place p q within is same =
+    map-set f programs place q ∙ ap (set (map f programs) place) (same ∙ ap f is ∙ sym (get_or-map f programs place p (f p) within)) ∙ set-get_or (map f programs) place (f p)
+
+pub turned_ready : (programs : List Program) (place : ℕ) (q : Program) → place < length programs → IsReady q → All IsReady programs → All IsReady (set programs place q)
+turned_ready programs place q within ready all k d inside = ⊎_elim
+    (λ one. subst IsReady (sym (ap (λ j. get_or (set programs place q) j d) one ∙ get_or-set_same programs place q d within)) ready)
+    (λ differ. subst IsReady (sym (get_or-set_other programs place k q d differ)) (all k d (let long = length-set programs place q in omega arith)))
+    (cases_eq k place)
+
+op_at : (programs : List Program) (k : ℕ) (d : Program) → k < length programs → get_or (map op_of programs) k 0 ≡ op_of (get_or programs k d)
+op_at programs k d inside = get_or-map op_of programs k d 0 inside
+
+pub turned_stand : (programs : List Program) (place : ℕ) (p q : Program) (w now : World) → place < length programs → p ≡ get_or programs place p → HaveOwnNumbers programs → walk_of q ≡ walk_of p → Stepped (walk_of p) (stage_of q) w now → AllStand programs w → AllStand (set programs place q) now
+turned_stand programs place p q w now within is own same stepped all k d inside = ⊎_elim here elsewhere (cases_eq k place)
+  where
+    here : k ≡ place → Stands (walk_of (get_or (set programs place q) k d)) (stage_of (get_or (set programs place q) k d)) now
+    here one =
+        let there : get_or (set programs place q) k d ≡ q = ap (λ j. get_or (set programs place q) j d) one ∙ get_or-set_same programs place q d within in
+        let stands : Stands (walk_of q) (stage_of q) now = subst (λ walk. Stands walk (stage_of q) now) (sym same) stepped.stands in
+        subst (λ program. Stands (walk_of program) (stage_of program) now) (sym there) stands
+
+    elsewhere : (k ≡ place → ⊥) → Stands (walk_of (get_or (set programs place q) k d)) (stage_of (get_or (set programs place q) k d)) now
+    elsewhere differ =
+        let there : get_or (set programs place q) k d ≡ get_or programs k d = get_or-set_other programs place k q d differ in
+        let long : length (set programs place q) ≡ length programs = length-set programs place q in
+        let inside_old : k < length programs = omega arith in
+        let other : (walk_of (get_or programs k d)).op ≡ (walk_of p).op → ⊥ = λ one. differ (own k place inside_old within (op_at programs k d inside_old ∙ one ∙ ap op_of is ∙ sym (op_at programs place p within))) in
+        subst (λ program. Stands (walk_of program) (stage_of program) now) (sym there) (stepped.keeps (walk_of (get_or programs k d)) (stage_of (get_or programs k d)) other (all k d inside_old))
+
+pub happens_at : (programs : List Program) (place : ℕ) (p : Program) (turn : Turn Answer) (w now : World) → place < length programs → p ≡ get_or programs place p → (IsTrue w.founded → (at : Root) (keys : List Pair) → Chain w at keys → (later : List Pair) × Happens at (task_of p) turn keys later × Chain now at later) → IsTrue w.founded → (at : Root) (keys : List Pair) → Chain w at keys → (later : List Pair) × HappensAt at (slice_get (map task_of programs) place) turn keys later × Chain now at later
+happens_at programs place p turn w now within is happens founded at keys chain =
+    let long : length (map task_of programs) ≡ length programs = length-map programs task_of in
+    let found : slice_get (map task_of programs) place ≡ Some (task_of p) = slice_get-get_or (map task_of programs) place (task_of p) (omega arith) ∙ ap Some (get_or-map task_of programs place p (task_of p) within ∙ ap task_of (sym is)) in
+    subst (λ task. (later : List Pair) × HappensAt at task turn keys later × Chain now at later) (sym found) (happens founded at keys chain)
+
+-- one more turn at the end of a list
+pub Runs-more : (at : Root) (tasks : List Task) (happened : List Happened) (one : Happened) (keys mid now : List Pair) → Runs at tasks happened keys mid → HappensAt at (slice_get tasks one.program) one.turn mid now → Runs at tasks (happened ++ one ∷ []) keys now
+Runs-more at tasks [] one keys mid now before happens = (now, subst (λ from. HappensAt at (slice_get tasks one.program) one.turn from now) before happens, refl)
+Runs-more at tasks (first ∷ happened) one keys mid now before happens = (before.0, before.1, Runs-more at tasks happened one before.0 mid now before.2 happens)
+
+-- what holds when so many of the schedule's turns are made
+pub record SoFar (programs current : List Program) (schedule : List ℕ) (index : ℕ) (happened : List Happened) (capacity : ℕ) (w now : World) : Type 0 where
+  pub stands : AllStand current now
+  pub numbers : map op_of current ≡ map op_of programs
+  pub tasks : map task_of current ≡ map task_of programs
+  pub ready : All IsReady current
+  pub founded : now.founded ≡ w.founded
+  pub count : length happened ≡ index
+  pub room : length schedule ≤ capacity
+  pub places : places_of happened ≡ take index schedule
+  pub runs : IsTrue w.founded → (at : Root) (keys : List Pair) → Chain w at keys → (later : List Pair) × Runs at (map task_of programs) happened keys later × Chain now at later
+
+-- the numbers of operations are told by their list alone
+pub HaveOwnNumbers-same : (programs current : List Program) → map op_of current ≡ map op_of programs → HaveOwnNumbers programs → HaveOwnNumbers current
+HaveOwnNumbers-same programs current same own i j first second one =
+    let long : length current ≡ length programs = sym (length-map current op_of) ∙ ap length same ∙ length-map programs op_of in
+    own i j (omega arith) (omega arith) (sym (ap (λ ops. get_or ops i 0) same) ∙ one ∙ ap (λ ops. get_or ops j 0) same)
+
+pub length-same : (programs current : List Program) → map op_of current ≡ map op_of programs → length current ≡ length programs
+length-same programs current same = sym (length-map current op_of) ∙ ap length same ∙ length-map programs op_of
+
+places_more : (happened : List Happened) (one : Happened) (schedule : List ℕ) (index : ℕ) → index < length schedule → places_of happened ≡ take index schedule → one.program ≡ get_or schedule index one.program → places_of (happened ++ one ∷ []) ≡ take (index + 1) schedule
+places_more happened one schedule index within before is =
+    map_push (λ (h : Happened). h.program) happened one ∙ ap (λ places. places ++ one.program ∷ []) before ∙ ap (λ place. take index schedule ++ place ∷ []) is ∙ sym (take_more schedule index one.program within)
+
+runs_next : (programs current : List Program) (happened : List Happened) (one : Happened) (w mid now : World) → map task_of current ≡ map task_of programs → mid.founded ≡ w.founded → (IsTrue w.founded → (at : Root) (keys : List Pair) → Chain w at keys → (later : List Pair) × Runs at (map task_of programs) happened keys later × Chain mid at later) → (IsTrue mid.founded → (at : Root) (keys : List Pair) → Chain mid at keys → (later : List Pair) × HappensAt at (slice_get (map task_of current) one.program) one.turn keys later × Chain now at later) → IsTrue w.founded → (at : Root) (keys : List Pair) → Chain w at keys → (later : List Pair) × Runs at (map task_of programs) (happened ++ one ∷ []) keys later × Chain now at later
+runs_next programs current happened one w mid now tasks same runs happens founded at keys chain =
+    let before = runs founded at keys chain in
+    let step = happens (same ∙ founded) at before.0 before.2 in
+    (step.0, Runs-more at (map task_of programs) happened one keys before.0 step.0 before.1 (subst (λ list. HappensAt at (slice_get list one.program) one.turn before.0 step.0) tasks step.1), step.2)
+
+-- one turn more
+pub SoFar-next : (one : Happened) (programs current after : List Program) (schedule : List ℕ) (index : ℕ) (happened items : List Happened) (room capacity : ℕ) (w mid now : World) → items ≡ happened ++ one ∷ [] → SoFar programs current schedule index happened room w mid → capacity ≡ room → index < length schedule → one.program ≡ get_or schedule index one.program → AllStand after now → map op_of after ≡ map op_of current → map task_of after ≡ map task_of current → All IsReady after → now.founded ≡ mid.founded → (IsTrue mid.founded → (at : Root) (keys : List Pair) → Chain mid at keys → (later : List Pair) × HappensAt at (slice_get (map task_of current) one.program) one.turn keys later × Chain now at later) → SoFar programs after schedule (index + 1) items capacity w now
+SoFar-next one programs current after schedule index happened items room capacity w mid now is so_far same within place stands numbers tasks ready founded happens =
+    subst (λ list. SoFar programs after schedule (index + 1) list capacity w now) (sym is) (record {
+      stands = stands;
+      numbers = numbers ∙ so_far.numbers;
+      tasks = tasks ∙ so_far.tasks;
+      ready = ready;
+      founded = founded ∙ so_far.founded;
+      count = length_push happened one ∙ ap (λ n. n + 1) so_far.count;
+      room = let fits = so_far.room in omega arith;
+      places = places_more happened one schedule index within so_far.places place;
+      runs = runs_next programs current happened one w mid now so_far.tasks so_far.founded so_far.runs happens;
+    })

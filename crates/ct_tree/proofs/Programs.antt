@@ -1,0 +1,49 @@
+-- The turns of programs, as what they do to the pairs of each index.
+use Rattle.std.proofs.Common.{◌≡◌, Bool, true, false, cond, List, Option, refl, sym, ap, ◌∙◌, subst, ⊎_elim}
+use Rattle.std.specs.Prelude.{IsTrue, ◌⊎◌, if◌then◌else◌}
+use Rattle.std.proofs.lemmas.Bool.{true≢false, false≢true}
+use Rattle.ct_definitions.specs.Pairs.{Pair}
+use Rattle.ct_node.specs.declared.root.Root.{Root}
+use Rattle.ct_node.specs.Worlds.{World}
+use Rattle.ct_tree_laws.specs.declared.walk.Walk.{Walk}
+use Rattle.ct_tree_laws.specs.declared.walk.Stage.{Stage}
+use Rattle.ct_tree_laws.specs.declared.walk.Stage.TheVariants as stage
+use Rattle.ct_tree_laws.specs.Trees.{Chain}
+use Rattle.ct_tree_laws.specs.Stands.{KeepsKeys, ChangesKeys, is_same_root}
+use Rattle.ct_tree_laws.proofs.Keys.{same_root}
+use Rattle.ct_tree.specs.Answers.{put_at, take_at, has_at, found_right}
+use Rattle.ct_tree.specs.Schedules.{Task, is_ended}
+
+pub stage_ended : (at : Stage) → is_ended at ≡ true → at ≡ stage.Ended
+stage_ended stage.Start is = absurd (false≢true is)
+stage_ended (stage.Down page) is = absurd (false≢true is)
+stage_ended (stage.Leaf page) is = absurd (false≢true is)
+stage_ended (stage.Held page) is = absurd (false≢true is)
+stage_ended (stage.Full page) is = absurd (false≢true is)
+stage_ended (stage.Split page right) is = absurd (false≢true is)
+stage_ended (stage.Cut page right) is = absurd (false≢true is)
+stage_ended (stage.Share page above) is = absurd (false≢true is)
+stage_ended (stage.Shared page above) is = absurd (false≢true is)
+stage_ended stage.Ended is = refl
+
+-- one of the two, where the stage is not the last
+pub not_ended : (P : Type 0) (at : Stage) → is_ended at ≡ false → P ⊎ (at ≡ stage.Ended) → P
+not_ended P at going is = ⊎_elim (λ open_stage. open_stage) (λ ended. absurd (true≢false (ap is_ended (sym ended) ∙ going))) is
+
+-- what keeps the pairs is a turn that goes on
+pub kept_goes : (w now : World) (task : Task) → KeepsKeys w now → IsTrue w.founded → (at : Root) (keys : List Pair) → Chain w at keys → (later : List Pair) × (later ≡ keys) × Chain now at later
+kept_goes w now task keeps founded at keys chain = (keys, refl, keeps founded at keys chain)
+
+pub put_ends : (walk : Walk) (w now : World) → ChangesKeys walk.at (put_at walk.target) w now → IsTrue w.founded → (at : Root) (keys : List Pair) → Chain w at keys → (later : List Pair) × (later ≡ (if is_same_root at walk.at then put_at walk.target keys else keys)) × Chain now at later
+put_ends walk w now changes founded at keys chain = (cond (is_same_root at walk.at) (put_at walk.target keys) keys, refl, changes founded at keys chain)
+
+pub take_ends : (walk : Walk) (found : Bool) (w now : World) → ChangesKeys walk.at (take_at walk.target) w now → (IsTrue w.founded → (keys : List Pair) → Chain w walk.at keys → found ≡ has_at walk.target keys) → IsTrue w.founded → (at : Root) (keys : List Pair) → Chain w at keys → (later : List Pair) × ((later ≡ (if is_same_root at walk.at then take_at walk.target keys else keys)) × (is_same_root at walk.at ≡ true → found ≡ has_at walk.target keys)) × Chain now at later
+take_ends walk found w now changes told founded at keys chain =
+    (cond (is_same_root at walk.at) (take_at walk.target keys) keys, (refl, λ same. told founded keys (subst (λ root. Chain w root keys) (same_root at walk.at same) chain)), changes founded at keys chain)
+
+pub search_ends : (walk : Walk) (above : Bool) (found : Option Pair) (w now : World) → KeepsKeys w now → (IsTrue w.founded → (keys : List Pair) → Chain w walk.at keys → found ≡ found_right above walk.target keys) → IsTrue w.founded → (at : Root) (keys : List Pair) → Chain w at keys → (later : List Pair) × ((later ≡ keys) × (is_same_root at walk.at ≡ true → found ≡ found_right above walk.target keys)) × Chain now at later
+search_ends walk above found w now keeps told founded at keys chain =
+    (keys, (refl, λ same. told founded keys (subst (λ root. Chain w root keys) (same_root at walk.at same) chain)), keeps founded at keys chain)
+
+pub same_goes : (w : World) → IsTrue w.founded → (at : Root) (keys : List Pair) → Chain w at keys → (later : List Pair) × (later ≡ keys) × Chain w at later
+same_goes w founded at keys chain = (keys, refl, chain)

@@ -1,0 +1,10 @@
+use Rattle.ct_tree.proofs.program.turn.Goals as goal
+
+pub returns-in-Put-clause-happens : goal.returns-in-Put-clause-happens
+returns-in-Put-clause-happens g c = rw c.in-Put.is c.turn_put.ensures.happens
+
+pub returns-in-Take-clause-happens : goal.returns-in-Take-clause-happens
+returns-in-Take-clause-happens g c = rw c.in-Take.is c.turn_take.ensures.happens
+
+pub returns-in-Search-clause-happens : goal.returns-in-Search-clause-happens
+returns-in-Search-clause-happens g c = rw c.in-Search.is c.turn_search.ensures.happens

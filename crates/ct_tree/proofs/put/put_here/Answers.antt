@@ -1,0 +1,61 @@
+use Rattle.std.proofs.Common.{sym, refl, subst}
+use Rattle.ct_node.specs.Worlds.{edited, Puts}
+use Rattle.ct_tree_laws.specs.Stands.{ChangesKeys}
+use Rattle.ct_tree.specs.Answers.{put_at}
+use Rattle.ct_tree_laws.proofs.Turns.{not_founded}
+use Rattle.ct_tree_laws.proofs.PutTurns.{held_is_for, held_ended, present_keys, puts_pair, edited_tidy, put_stepped, put_keys}
+use Rattle.ct_tree.proofs.Done.{after_done, is_for_from, is_for_parts}
+use Rattle.ct_tree.proofs.put.put_here.Goals as goal
+
+pub bad-requires : goal.bad-requires
+bad-requires g c =
+    let w = g.N.Nodes.world c.args.nodes.now in
+    not_founded w w refl (λ founded.
+    let facts = held_is_for c.args.walk.now c.args.page c.args.node.now c.in-At.pair w c.requires.seen (cc) c.requires.within (c.requires.stands founded) in
+    let yes = is_for_from c.args.node.now c.in-At.pair facts.0 facts.1 facts.2 in
+    cc)
+
+pub returns-then-has-clause-stepped : goal.returns-then-has-clause-stepped
+returns-then-has-clause-stepped g c = held_ended c.args.walk.now c.args.page (g.N.Nodes.world c.args.nodes.now) (g.N.Nodes.world c.free.new.self) c.requires.stands c.free.ensures.world
+
+pub returns-then-has-clause-keys : goal.returns-then-has-clause-keys
+returns-then-has-clause-keys g c =
+    let w = g.N.Nodes.world c.args.nodes.now in
+    let now = g.N.Nodes.world c.free.new.self in
+    let facts = is_for_parts c.args.node.now c.in-At.pair (cc) in
+    subst (λ target. ChangesKeys c.args.walk.now.at (put_at target) w now) (sym c.in-At.is)
+    (present_keys c.args.walk.now c.args.page c.args.node.now c.in-At.pair w now c.requires.stands c.requires.seen facts.2 (cc) c.free.ensures.world)
+
+pub edit-edited-requires-clause-next : goal.edit-edited-requires-clause-next
+edit-edited-requires-clause-next g c =
+    let w = g.N.Nodes.world c.args.nodes.now in
+    let facts = is_for_parts c.args.node.now c.in-At.pair (cc) in
+    λ founded. Puts (puts_pair c.args.walk.now c.args.page c.args.node.now c.put.new.self c.in-At.pair w c.requires.seen facts.0 facts.1 facts.2 (cc) c.count-count.ensures.node c.put.ensures.node (c.requires.stands founded))
+
+pub free-requires-2 : goal.free-requires-2
+free-requires-2 g c =
+    let w = g.N.Nodes.world c.args.nodes.now in
+    let mid = g.N.Nodes.world c.edit-edited.new.self in
+    edited_tidy c.args.walk.now c.args.page c.args.node.now c.put.new.self w mid c.requires.stands c.requires.seen
+    (after_done c.edit-edited.result (λ _. edited c.args.walk.now.op c.args.page c.put.new.self w) w mid (cc) c.edit-edited.ensures.world)
+
+pub returns-clause-stepped : goal.returns-clause-stepped
+returns-clause-stepped g c =
+    let w = g.N.Nodes.world c.args.nodes.now in
+    let mid = g.N.Nodes.world c.edit-edited.new.self in
+    let facts = is_for_parts c.args.node.now c.in-At.pair (cc) in
+    put_stepped c.args.walk.now c.args.page c.put.new.self w mid (g.N.Nodes.world c.free-2.new.self) c.requires.stands
+    (λ here. puts_pair c.args.walk.now c.args.page c.args.node.now c.put.new.self c.in-At.pair w c.requires.seen facts.0 facts.1 facts.2 (cc) c.count-count.ensures.node c.put.ensures.node here)
+    (after_done c.edit-edited.result (λ _. edited c.args.walk.now.op c.args.page c.put.new.self w) w mid (cc) c.edit-edited.ensures.world)
+    c.free-2.ensures.world
+
+pub returns-clause-keys : goal.returns-clause-keys
+returns-clause-keys g c =
+    let w = g.N.Nodes.world c.args.nodes.now in
+    let mid = g.N.Nodes.world c.edit-edited.new.self in
+    let now = g.N.Nodes.world c.free-2.new.self in
+    let facts = is_for_parts c.args.node.now c.in-At.pair (cc) in
+    subst (λ target. ChangesKeys c.args.walk.now.at (put_at target) w now) (sym c.in-At.is)
+    (put_keys c.args.walk.now c.args.page c.args.node.now c.put.new.self c.in-At.pair w mid now c.requires.stands c.requires.seen facts.0 facts.1 facts.2 (cc) c.count-count.ensures.node c.put.ensures.node
+    (after_done c.edit-edited.result (λ _. edited c.args.walk.now.op c.args.page c.put.new.self w) w mid (cc) c.edit-edited.ensures.world)
+    c.free-2.ensures.world)

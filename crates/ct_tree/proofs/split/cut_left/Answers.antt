@@ -1,0 +1,51 @@
+use Rattle.std.proofs.Common.{◌≡◌, ◌<◌, length, arith, refl}
+use Rattle.ct_node.specs.Worlds.{Holds, page_at, edited, Cuts}
+use Rattle.ct_tree_laws.proofs.SplitTurns.{cut_enough, cuts_left, cut_is_tidy, cut_stepped, cut_keys}
+use Rattle.ct_tree.proofs.Done.{when_done, after_done}
+use Rattle.ct_tree.proofs.split.cut_left.Goals as goal
+
+pub bad-requires : goal.bad-requires
+bad-requires g c =
+    let w = g.N.Nodes.world c.args.nodes.now in
+    let node = c.look-seen.new.into in
+    let few : length node.entries < 2 = omega arith in
+    cut_enough c.args.walk.now c.args.page c.args.right node w (g.N.Nodes.world c.look-seen.new.self) c.requires
+    (when_done c.look-seen.result (λ _. page_at w c.args.page ≡ Holds node) (cc) c.look-seen.ensures.seen) c.look-seen.ensures.world few
+
+pub edit-edited-requires-clause-mark : goal.edit-edited-requires-clause-mark
+edit-edited-requires-clause-mark g c = g.met.N.Nodes.allows_none c.look-seen.new.self c.args.walk.now.op
+
+pub edit-edited-requires-clause-next : goal.edit-edited-requires-clause-next
+edit-edited-requires-clause-next g c =
+    let w = g.N.Nodes.world c.args.nodes.now in
+    let node = c.look-seen.new.into in
+    rw c.look-seen.ensures.world (λ founded. Cuts refl (cuts_left c.args.walk.now c.args.page c.args.right node c.cut.new.self w (when_done c.look-seen.result (λ _. page_at w c.args.page ≡ Holds node) (cc) c.look-seen.ensures.seen) c.cut.ensures.node (c.requires founded)))
+
+pub free-requires : goal.free-requires
+free-requires g c =
+    let w = g.N.Nodes.world c.args.nodes.now in
+    let mid = g.N.Nodes.world c.edit-edited.new.self in
+    let node = c.look-seen.new.into in
+    cut_is_tidy c.args.walk.now c.args.page c.args.right node c.cut.new.self w mid c.requires
+    (when_done c.look-seen.result (λ _. page_at w c.args.page ≡ Holds node) (cc) c.look-seen.ensures.seen) c.cut.ensures.node
+    (after_done c.edit-edited.result (λ _. edited c.args.walk.now.op c.args.page c.cut.new.self w) w mid (cc) (rw c.look-seen.ensures.world at c.edit-edited.ensures.world))
+
+pub returns-clause-stepped : goal.returns-clause-stepped
+returns-clause-stepped g c =
+    let w = g.N.Nodes.world c.args.nodes.now in
+    let mid = g.N.Nodes.world c.edit-edited.new.self in
+    let node = c.look-seen.new.into in
+    cut_stepped c.args.walk.now c.args.page c.args.right node c.cut.new.self w mid (g.N.Nodes.world c.free.new.self) c.requires
+    (when_done c.look-seen.result (λ _. page_at w c.args.page ≡ Holds node) (cc) c.look-seen.ensures.seen) c.cut.ensures.node
+    (after_done c.edit-edited.result (λ _. edited c.args.walk.now.op c.args.page c.cut.new.self w) w mid (cc) (rw c.look-seen.ensures.world at c.edit-edited.ensures.world))
+    c.free.ensures.world
+
+pub returns-clause-keys : goal.returns-clause-keys
+returns-clause-keys g c =
+    let w = g.N.Nodes.world c.args.nodes.now in
+    let mid = g.N.Nodes.world c.edit-edited.new.self in
+    let node = c.look-seen.new.into in
+    cut_keys c.args.walk.now c.args.page c.args.right node c.cut.new.self w mid (g.N.Nodes.world c.free.new.self) c.requires
+    (when_done c.look-seen.result (λ _. page_at w c.args.page ≡ Holds node) (cc) c.look-seen.ensures.seen) c.cut.ensures.node
+    (after_done c.edit-edited.result (λ _. edited c.args.walk.now.op c.args.page c.cut.new.self w) w mid (cc) (rw c.look-seen.ensures.world at c.edit-edited.ensures.world))
+    c.free.ensures.world

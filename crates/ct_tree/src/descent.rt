@@ -1,0 +1,134 @@
+//! The way from the root to the leaf of a target.
+
+ghost use Rattle.std.specs.Prelude.{◌≡◌, ◌==◌, ◌&&◌, IsTrue, false, true, length};
+ghost use Rattle.ct_node.specs.Turns.{OnBusy, CausedTurn};
+ghost use Rattle.ct_tree_laws.specs.Stands.{Stands, Stepped, KeepsKeys};
+ghost use Rattle.ct_tree.specs.Answers.{is_done, IsInTheWay, IsPutting, IsTaking, IsFinding, IsSearching, answer_with, is_for};
+
+use ct_disk::Turn;
+use ct_node::{Node, Nodes, Pair, Place};
+use ct_tree_laws::{Stage, Walk};
+
+/// Whether a turn has ended its call.
+pub(crate) fn is_done(turn: &Turn<()>) -> bool
+    ensures { result ≡ is_done turn.now }
+{
+    match turn {
+        Turn::Done(()) => true,
+        Turn::More => false,
+        Turn::Busy { op: _ } => false,
+        Turn::Refused(_) => false,
+    }
+}
+
+/// Reads the root.
+pub(crate) fn start<N: Nodes>(walk: &Walk, nodes: &mut N) -> (Stage, Turn<()>)
+    requires { Stands walk.now Stage.Start (N.world nodes.old) }
+    ensures stepped { Stepped walk.now result.0 (N.world nodes.old) (N.world nodes.new) }
+    ensures keys { KeepsKeys (N.world nodes.old) (N.world nodes.new) }
+    ensures going { is_done result.1 ≡ false }
+    ensures putting { IsPutting result.0 }
+    ensures taking { IsTaking result.0 }
+    ensures searching { (above : _) → IsSearching above result.0 }
+    ensures busy { OnBusy result.1 (IsInTheWay (N.flushes nodes.old) (N.world nodes.old) walk.now.op) }
+    ensures cause { CausedTurn result.1 (N.faults nodes.old) (N.faults nodes.new) (N.halted nodes.old) (N.halted nodes.new) }
+{
+    match nodes.root(walk.op, walk.at) {
+        Turn::Done(page) => (Stage::Down { page }, Turn::More),
+        Turn::More => (Stage::Start, Turn::More),
+        Turn::Busy { op } => (Stage::Start, Turn::Busy { op }),
+        Turn::Refused(fault) => (Stage::Start, Turn::Refused(fault)),
+    }
+}
+
+/// Goes on from a page: right, down, or to a latch on the leaf that it is.
+pub(crate) fn descend<N: Nodes>(walk: &Walk, nodes: &mut N, page: u64) -> (Stage, Turn<()>)
+    requires { Stands walk.now (Stage.Down page) (N.world nodes.old) }
+    ensures stepped { Stepped walk.now result.0 (N.world nodes.old) (N.world nodes.new) }
+    ensures keys { KeepsKeys (N.world nodes.old) (N.world nodes.new) }
+    ensures going { is_done result.1 ≡ false }
+    ensures putting { IsPutting result.0 }
+    ensures taking { IsTaking result.0 }
+    ensures searching { (above : _) → IsSearching above result.0 }
+    ensures busy { OnBusy result.1 (IsInTheWay (N.flushes nodes.old) (N.world nodes.old) walk.now.op) }
+    ensures cause { CausedTurn result.1 (N.faults nodes.old) (N.faults nodes.new) (N.halted nodes.old) (N.halted nodes.new) }
+{
+    let mut node = Node::new(0, 0, true, 1);
+    let seen = nodes.look(walk.op, page, &mut node);
+    if !is_done(&seen) {
+        return (Stage::Down { page }, seen);
+    }
+    match node.next_place(&walk.target) {
+        Place::Right(right) => return (Stage::Down { page: right }, Turn::More),
+        Place::Down(below) => return (Stage::Down { page: below }, Turn::More),
+        Place::Here(_) => return (Stage::Leaf { page }, Turn::More),
+        Place::End => {
+            if node.is_leaf() {
+                return (Stage::Leaf { page }, Turn::More);
+            }
+            return (Stage::Down { page }, Turn::Refused(nodes.bad(page)));
+        }
+    }
+}
+
+/// Makes the leaf that was found the operation's own.
+pub(crate) fn own_leaf<N: Nodes>(walk: &Walk, nodes: &mut N, page: u64) -> (Stage, Turn<()>)
+    requires { Stands walk.now (Stage.Leaf page) (N.world nodes.old) }
+    ensures stepped { Stepped walk.now result.0 (N.world nodes.old) (N.world nodes.new) }
+    ensures keys { KeepsKeys (N.world nodes.old) (N.world nodes.new) }
+    ensures going { is_done result.1 ≡ false }
+    ensures putting { IsPutting result.0 }
+    ensures taking { IsTaking result.0 }
+    ensures busy { OnBusy result.1 (IsInTheWay (N.flushes nodes.old) (N.world nodes.old) walk.now.op) }
+    ensures cause { CausedTurn result.1 (N.faults nodes.old) (N.faults nodes.new) (N.halted nodes.old) (N.halted nodes.new) }
+{
+    let owned = nodes.own(walk.op, page);
+    if !is_done(&owned) {
+        return (Stage::Leaf { page }, owned);
+    }
+    (Stage::Held { page }, Turn::More)
+}
+
+/// Whether a node is a leaf that a pair may stand in.
+pub(crate) fn is_for(node: &Node, pair: &Pair) -> bool
+    ensures { result ≡ is_for node.now pair.now }
+{
+    node.is_leaf() && node.key_len() == pair.key.as_slice().len() && node.covers(pair)
+}
+
+/// One turn on the way to a leaf that is to be the operation's own.
+pub(crate) fn find_leaf<N: Nodes>(walk: &Walk, stage: Stage, nodes: &mut N) -> (Stage, Turn<()>)
+    requires stands { Stands walk.now stage (N.world nodes.old) }
+    requires finding { IsFinding stage }
+    ensures stepped { Stepped walk.now result.0 (N.world nodes.old) (N.world nodes.new) }
+    ensures keys { KeepsKeys (N.world nodes.old) (N.world nodes.new) }
+    ensures going { is_done result.1 ≡ false }
+    ensures taking { IsTaking result.0 }
+    ensures busy { OnBusy result.1 (IsInTheWay (N.flushes nodes.old) (N.world nodes.old) walk.now.op) }
+    ensures cause { CausedTurn result.1 (N.faults nodes.old) (N.faults nodes.new) (N.halted nodes.old) (N.halted nodes.new) }
+{
+    match stage {
+        Stage::Start => return start(walk, nodes),
+        Stage::Down { page } => return descend(walk, nodes, page),
+        Stage::Leaf { page } => return own_leaf(walk, nodes, page),
+        Stage::Held { page: _ } => unreachable!(),
+        Stage::Full { page: _ } => unreachable!(),
+        Stage::Split { page: _, right: _ } => unreachable!(),
+        Stage::Cut { page: _, right: _ } => unreachable!(),
+        Stage::Share { page: _, above: _ } => unreachable!(),
+        Stage::Shared { page: _, above: _ } => unreachable!(),
+        Stage::Ended => unreachable!(),
+    }
+}
+
+/// The answer of a turn, with what a call that has ended tells.
+pub(crate) fn answer_with<T: Drop>(turn: Turn<()>, told: T) -> Turn<T>
+    ensures { result ≡ answer_with turn told }
+{
+    match turn {
+        Turn::Done(()) => return Turn::Done(told),
+        Turn::More => return Turn::More,
+        Turn::Busy { op } => return Turn::Busy { op },
+        Turn::Refused(fault) => return Turn::Refused(fault),
+    }
+}

@@ -1,0 +1,23 @@
+//! The tree with right links: puts and takes of one pair and searches, in turns beside others.
+#![tactic(auto)]
+
+mod begin;
+mod descent;
+mod memory;
+mod program;
+mod put;
+mod schedule;
+mod search;
+mod split;
+mod take;
+#[cfg(test)]
+mod tests;
+
+pub use begin::begins_in_memory;
+pub use ct_tree_laws::{Stage, Walk};
+pub use memory::run_in_memory;
+pub use program::{Answer, Happened, Program, turn};
+pub use put::Put;
+pub use schedule::run;
+pub use search::Search;
+pub use take::Take;

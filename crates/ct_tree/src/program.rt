@@ -1,0 +1,141 @@
+//! An operation of any kind, and what its turn has done.
+
+ghost use Rattle.std.specs.Prelude.{◌≡◌, ◌⊎◌, ℕ, IsTrue, List};
+ghost use Rattle.ct_node.specs.declared.root.Root.{Root};
+ghost use Rattle.ct_node.specs.declared.root.Mark.{Mark};
+ghost use Rattle.ct_definitions.specs.Pairs.{Pair};
+ghost use Rattle.ct_tree_laws.specs.Trees.{Chain};
+ghost use Rattle.ct_tree_laws.specs.Stands.{Stands, Stepped};
+ghost use Rattle.ct_tree.specs.Schedules.{walk_of, stage_of, task_of, is_ended, IsReady, Happens, Puts, Takes, Searches};
+ghost use Rattle.ct_tree.specs.Answers.{IsPair, IsPutting, IsTaking, IsSearching};
+
+use crate::put::Put;
+use crate::search::Search;
+use crate::take::Take;
+use ct_disk::Turn;
+use ct_node::{Nodes, Pair};
+use ct_tree_laws::Stage;
+
+/// An operation on a tree.
+#[derive(Drop)]
+pub enum Program {
+    Put(Put),
+    Take(Take),
+    Search(Search),
+}
+
+/// What a call that has ended tells.
+#[derive(Drop)]
+pub enum Answer {
+    /// The pair is put.
+    Put,
+    /// The pair is taken; whether it was there.
+    Taken(bool),
+    /// The pair found, if any.
+    Found(Option<Pair>),
+}
+
+/// A turn of the program at a place.
+#[derive(Drop)]
+pub struct Happened {
+    pub program: usize,
+    pub turn: Turn<Answer>,
+}
+
+/// One turn of an operation. One that has ended does nothing.
+pub fn turn<N: Nodes>(program: &mut Program, nodes: &mut N) -> Turn<Answer>
+    requires stands { Stands (walk_of program.old) (stage_of program.old) (N.world nodes.old) }
+    requires ready { IsReady program.old }
+    requires marks { (any : N) (op : ℕ) (mark : Mark) → N.allows any op mark }
+    ensures walk { walk_of program.new ≡ walk_of program.old }
+    ensures task { task_of program.new ≡ task_of program.old }
+    ensures ready { IsReady program.new }
+    ensures stepped { Stepped (walk_of program.old) (stage_of program.new) (N.world nodes.old) (N.world nodes.new) }
+    ensures happens { IsTrue (N.world nodes.old).founded → (at : Root) (keys : List Pair) → Chain (N.world nodes.old) at keys → (now : List Pair) × Happens at (task_of program.old) result keys now × Chain (N.world nodes.new) at now }
+{
+    match program {
+        Program::Put(put) => return turn_put(put, nodes),
+        Program::Take(take) => return turn_take(take, nodes),
+        Program::Search(search) => return turn_search(search, nodes),
+    }
+}
+
+/// Whether a stage is the last one.
+fn is_ended(stage: Stage) -> bool
+    ensures { result ≡ is_ended stage }
+{
+    match stage {
+        Stage::Ended => true,
+        Stage::Start => false,
+        Stage::Down { page: _ } => false,
+        Stage::Leaf { page: _ } => false,
+        Stage::Held { page: _ } => false,
+        Stage::Full { page: _ } => false,
+        Stage::Split { page: _, right: _ } => false,
+        Stage::Cut { page: _, right: _ } => false,
+        Stage::Share { page: _, above: _ } => false,
+        Stage::Shared { page: _, above: _ } => false,
+    }
+}
+
+fn turn_put<N: Nodes>(put: &mut Put, nodes: &mut N) -> Turn<Answer>
+    requires stands { Stands put.old.walk put.old.stage (N.world nodes.old) }
+    requires pair { IsPair put.old.walk.target }
+    requires ready { IsPutting put.old.stage ⊎ (put.old.stage ≡ Stage.Ended) }
+    requires marks { (any : N) (op : ℕ) (mark : Mark) → N.allows any op mark }
+    ensures walk { put.new.walk ≡ put.old.walk }
+    ensures ready { IsPutting put.new.stage ⊎ (put.new.stage ≡ Stage.Ended) }
+    ensures stepped { Stepped put.old.walk put.new.stage (N.world nodes.old) (N.world nodes.new) }
+    ensures happens { IsTrue (N.world nodes.old).founded → (at : Root) (keys : List Pair) → Chain (N.world nodes.old) at keys → (now : List Pair) × Happens at (Puts put.old.walk.at put.old.walk.target) result keys now × Chain (N.world nodes.new) at now }
+{
+    if is_ended(put.stage) {
+        return Turn::More;
+    }
+    match put.turn(nodes) {
+        Turn::Done(()) => return Turn::Done(Answer::Put),
+        Turn::More => return Turn::More,
+        Turn::Busy { op } => return Turn::Busy { op },
+        Turn::Refused(fault) => return Turn::Refused(fault),
+    }
+}
+
+fn turn_take<N: Nodes>(take: &mut Take, nodes: &mut N) -> Turn<Answer>
+    requires stands { Stands take.old.walk take.old.stage (N.world nodes.old) }
+    requires pair { IsPair take.old.walk.target }
+    requires ready { IsTaking take.old.stage ⊎ (take.old.stage ≡ Stage.Ended) }
+    requires marks { (any : N) (op : ℕ) (mark : Mark) → N.allows any op mark }
+    ensures walk { take.new.walk ≡ take.old.walk }
+    ensures ready { IsTaking take.new.stage ⊎ (take.new.stage ≡ Stage.Ended) }
+    ensures stepped { Stepped take.old.walk take.new.stage (N.world nodes.old) (N.world nodes.new) }
+    ensures happens { IsTrue (N.world nodes.old).founded → (at : Root) (keys : List Pair) → Chain (N.world nodes.old) at keys → (now : List Pair) × Happens at (Takes take.old.walk.at take.old.walk.target) result keys now × Chain (N.world nodes.new) at now }
+{
+    if is_ended(take.stage) {
+        return Turn::More;
+    }
+    match take.turn(nodes) {
+        Turn::Done(found) => return Turn::Done(Answer::Taken(found)),
+        Turn::More => return Turn::More,
+        Turn::Busy { op } => return Turn::Busy { op },
+        Turn::Refused(fault) => return Turn::Refused(fault),
+    }
+}
+
+fn turn_search<N: Nodes>(search: &mut Search, nodes: &mut N) -> Turn<Answer>
+    requires stands { Stands search.old.walk search.old.stage (N.world nodes.old) }
+    requires ready { IsSearching search.old.above search.old.stage ⊎ (search.old.stage ≡ Stage.Ended) }
+    ensures walk { search.new.walk ≡ search.old.walk }
+    ensures above { search.new.above ≡ search.old.above }
+    ensures ready { IsSearching search.new.above search.new.stage ⊎ (search.new.stage ≡ Stage.Ended) }
+    ensures stepped { Stepped search.old.walk search.new.stage (N.world nodes.old) (N.world nodes.new) }
+    ensures happens { IsTrue (N.world nodes.old).founded → (at : Root) (keys : List Pair) → Chain (N.world nodes.old) at keys → (now : List Pair) × Happens at (Searches search.old.walk.at search.old.walk.target search.old.above) result keys now × Chain (N.world nodes.new) at now }
+{
+    if is_ended(search.stage) {
+        return Turn::More;
+    }
+    match search.turn(nodes) {
+        Turn::Done(found) => return Turn::Done(Answer::Found(found)),
+        Turn::More => return Turn::More,
+        Turn::Busy { op } => return Turn::Busy { op },
+        Turn::Refused(fault) => return Turn::Refused(fault),
+    }
+}

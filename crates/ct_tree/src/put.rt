@@ -1,0 +1,159 @@
+//! Putting a pair: the leaf found, made the operation's own, split where it is full, and written.
+
+ghost use Rattle.std.specs.Prelude.{◌≡◌, ◌≤◌, ◌==◌, ◌&&◌, IsTrue, false, true, length};
+ghost use Rattle.ct_node.specs.Places.{is_past};
+ghost use Rattle.ct_node.specs.Worlds.{Holds, page_at};
+ghost use Rattle.ct_node.specs.Turns.{OnBusy, CausedTurn};
+ghost use Rattle.ct_tree_laws.specs.Stands.{Stands, Stepped};
+ghost use Rattle.ct_tree.specs.Answers.{IsPair, PutsKeys, IsInTheWay, IsPutting, GoesOn};
+
+use crate::descent::{descend, is_done, is_for, own_leaf, start};
+use crate::split::{allocate, cut_left, write_right};
+use ct_disk::Turn;
+use ct_node::{Mark, Node, Nodes, Place, Root, Target};
+use ct_tree_laws::{Stage, Walk};
+
+/// Puts one pair into an index, in turns. A pair that is there already is left as it is.
+#[derive(Drop)]
+pub struct Put {
+    pub walk: Walk,
+    pub mark: Mark,
+    pub stage: Stage,
+}
+
+impl Put {
+    /// A put of the pair that the target is. The edit that puts it bears the mark, and no other does.
+    pub fn new(op: u64, at: Root, target: Target, mark: Mark) -> Put
+        requires { IsPair target }
+        ensures walk { result.walk ≡ record { op = op; at = at; target = target } }
+        ensures mark { result.mark ≡ mark }
+        ensures stage { result.stage ≡ Stage.Start }
+    {
+        Put {
+            walk: Walk { op, at, target },
+            mark,
+            stage: Stage::Start,
+        }
+    }
+
+    /// One turn. The turn that answers `Done` has put the pair and given back what the put took; no
+    /// other turn changes the pairs of any index.
+    pub fn turn<N: Nodes>(&mut self, nodes: &mut N) -> Turn<()>
+        requires stands { Stands self.old.walk self.old.stage (N.world nodes.old) }
+        requires pair { IsPair self.old.walk.target }
+        requires open { IsPutting self.old.stage }
+        requires mark { N.allows nodes.old self.old.walk.op self.old.mark }
+        ensures walk { self.new.walk ≡ self.old.walk }
+        ensures mark { self.new.mark ≡ self.old.mark }
+        ensures stepped { Stepped self.old.walk self.new.stage (N.world nodes.old) (N.world nodes.new) }
+        ensures keys { PutsKeys self.old.walk result (N.world nodes.old) (N.world nodes.new) }
+        ensures goes { GoesOn result self.new.stage }
+        ensures busy { OnBusy result (IsInTheWay (N.flushes nodes.old) (N.world nodes.old) self.old.walk.op) }
+        ensures cause { CausedTurn result (N.faults nodes.old) (N.faults nodes.new) (N.halted nodes.old) (N.halted nodes.new) }
+    {
+        let step = put_step(&self.walk, self.mark, self.stage, nodes);
+        self.stage = step.0;
+        step.1
+    }
+}
+
+/// The turn of a put at a stage.
+fn put_step<N: Nodes>(walk: &Walk, mark: Mark, stage: Stage, nodes: &mut N) -> (Stage, Turn<()>)
+    requires stands { Stands walk.now stage (N.world nodes.old) }
+    requires pair { IsPair walk.now.target }
+    requires open { IsPutting stage }
+    requires mark { N.allows nodes.old walk.now.op mark }
+    ensures stepped { Stepped walk.now result.0 (N.world nodes.old) (N.world nodes.new) }
+    ensures keys { PutsKeys walk.now result.1 (N.world nodes.old) (N.world nodes.new) }
+    ensures goes { GoesOn result.1 result.0 }
+    ensures busy { OnBusy result.1 (IsInTheWay (N.flushes nodes.old) (N.world nodes.old) walk.now.op) }
+    ensures cause { CausedTurn result.1 (N.faults nodes.old) (N.faults nodes.new) (N.halted nodes.old) (N.halted nodes.new) }
+{
+    match stage {
+        Stage::Start => return start(walk, nodes),
+        Stage::Down { page } => return descend(walk, nodes, page),
+        Stage::Leaf { page } => return own_leaf(walk, nodes, page),
+        Stage::Held { page } => return put_held(walk, mark, nodes, page),
+        Stage::Full { page } => return allocate(walk, nodes, page),
+        Stage::Split { page, right } => return write_right(walk, nodes, page, right),
+        Stage::Cut { page, right } => return cut_left(walk, nodes, page, right),
+        Stage::Share { page: _, above: _ } => unreachable!(),
+        Stage::Shared { page: _, above: _ } => unreachable!(),
+        Stage::Ended => unreachable!(),
+    }
+}
+
+/// Looks at the leaf again, now that it is the operation's own: goes on to the right, or puts the
+/// pair.
+pub(crate) fn put_held<N: Nodes>(
+    walk: &Walk,
+    mark: Mark,
+    nodes: &mut N,
+    page: u64,
+) -> (Stage, Turn<()>)
+    requires stands { Stands walk.now (Stage.Held page) (N.world nodes.old) }
+    requires pair { IsPair walk.now.target }
+    requires mark { N.allows nodes.old walk.now.op mark }
+    ensures stepped { Stepped walk.now result.0 (N.world nodes.old) (N.world nodes.new) }
+    ensures keys { PutsKeys walk.now result.1 (N.world nodes.old) (N.world nodes.new) }
+    ensures goes { GoesOn result.1 result.0 }
+    ensures busy { OnBusy result.1 (IsInTheWay (N.flushes nodes.old) (N.world nodes.old) walk.now.op) }
+    ensures cause { CausedTurn result.1 (N.faults nodes.old) (N.faults nodes.new) (N.halted nodes.old) (N.halted nodes.new) }
+{
+    let mut node = Node::new(0, 0, true, 1);
+    let seen = nodes.look(walk.op, page, &mut node);
+    if !is_done(&seen) {
+        return (Stage::Held { page }, seen);
+    }
+    match node.next_place(&walk.target) {
+        Place::Right(right) => {
+            nodes.free(walk.op, page);
+            return (Stage::Down { page: right }, Turn::More);
+        }
+        Place::Down(_) => return (Stage::Held { page }, Turn::Refused(nodes.bad(page))),
+        Place::Here(_) => return put_here(walk, mark, nodes, page, &mut node),
+        Place::End => return put_here(walk, mark, nodes, page, &mut node),
+    }
+}
+
+/// Puts the pair into the leaf, unless it is there. A full leaf is to be split first.
+fn put_here<N: Nodes>(
+    walk: &Walk,
+    mark: Mark,
+    nodes: &mut N,
+    page: u64,
+    node: &mut Node,
+) -> (Stage, Turn<()>)
+    requires stands { Stands walk.now (Stage.Held page) (N.world nodes.old) }
+    requires pair { IsPair walk.now.target }
+    requires mark { N.allows nodes.old walk.now.op mark }
+    requires seen { page_at (N.world nodes.old) page ≡ Holds node.old }
+    requires within { is_past node.old.high walk.now.target ≡ false }
+    ensures stepped { Stepped walk.now result.0 (N.world nodes.old) (N.world nodes.new) }
+    ensures keys { PutsKeys walk.now result.1 (N.world nodes.old) (N.world nodes.new) }
+    ensures goes { GoesOn result.1 result.0 }
+    ensures busy { OnBusy result.1 (IsInTheWay (N.flushes nodes.old) (N.world nodes.old) walk.now.op) }
+    ensures cause { CausedTurn result.1 (N.faults nodes.old) (N.faults nodes.new) (N.halted nodes.old) (N.halted nodes.new) }
+{
+    let Target::At(pair) = &walk.target else {
+        unreachable!();
+    };
+    if !is_for(node, pair) {
+        return (Stage::Held { page }, Turn::Refused(nodes.bad(page)));
+    }
+    if node.has(pair) {
+        nodes.free(walk.op, page);
+        return (Stage::Ended, Turn::Done(()));
+    }
+    if !node.fits() {
+        return (Stage::Full { page }, Turn::More);
+    }
+    node.put(pair);
+    let _count = node.count();
+    let edited = nodes.edit(walk.op, page, node, mark);
+    if !is_done(&edited) {
+        return (Stage::Held { page }, edited);
+    }
+    nodes.free(walk.op, page);
+    (Stage::Ended, Turn::Done(()))
+}

@@ -1,0 +1,222 @@
+//! Searching to the right: shared latches from the leaf of the target to the leaf of the answer.
+
+ghost use Rattle.std.specs.Prelude.{◌≡◌, ◌≤◌, ◌<◌, IsTrue, false, true, length};
+ghost use Rattle.ct_node.specs.Turns.{OnBusy, CausedTurn};
+ghost use Rattle.ct_tree_laws.specs.Stands.{Stands, Stepped, KeepsKeys};
+ghost use Rattle.ct_tree.specs.Answers.{is_done, TellsFound, IsFound, HasNone, IsInTheWay, IsSearching, IsSeeking};
+
+use crate::descent::{answer_with, descend, is_done, start};
+use ct_disk::Turn;
+use ct_node::{Node, Nodes, Pair, Place, Root, Target};
+use ct_tree_laws::{Stage, Walk};
+use std::alloc::Global;
+
+/// Searches an index to the right, in turns. It keeps its latches until `end`.
+#[derive(Drop)]
+pub struct Search {
+    alloc: Global,
+    pub walk: Walk,
+    pub above: bool,
+    pub stage: Stage,
+}
+
+impl Search {
+    /// A search for the first pair at the target or above it; where `above` is set, above it. It
+    /// takes no memory.
+    pub fn new(alloc: Global, op: u64, at: Root, target: Target, above: bool) -> Search
+        ensures walk { result.walk ≡ record { op = op; at = at; target = target } }
+        ensures above { result.above ≡ above }
+        ensures stage { result.stage ≡ Stage.Start }
+    {
+        Search {
+            alloc,
+            walk: Walk { op, at, target },
+            above,
+            stage: Stage::Start,
+        }
+    }
+
+    /// One turn. The turn that answers `Done` gives the pair found among those that stand at it, and
+    /// keeps the latches under which it was found. A search that is `Busy` has given all its latches
+    /// back, and begins again.
+    pub fn turn<N: Nodes>(&mut self, nodes: &mut N) -> Turn<Option<Pair>>
+        requires stands { Stands self.old.walk self.old.stage (N.world nodes.old) }
+        requires open { IsSearching self.old.above self.old.stage }
+        ensures walk { self.new.walk ≡ self.old.walk }
+        ensures above { self.new.above ≡ self.old.above }
+        ensures stepped { Stepped self.old.walk self.new.stage (N.world nodes.old) (N.world nodes.new) }
+        ensures keys { KeepsKeys (N.world nodes.old) (N.world nodes.new) }
+        ensures found { IsFound self.old.walk self.old.above result (N.world nodes.old) }
+        ensures open { IsSearching self.new.above self.new.stage }
+        ensures busy { OnBusy result (IsInTheWay (N.flushes nodes.old) (N.world nodes.old) self.old.walk.op) }
+        ensures cause { CausedTurn result (N.faults nodes.old) (N.faults nodes.new) (N.halted nodes.old) (N.halted nodes.new) }
+    {
+        let step = search_step(self.alloc, &self.walk, self.above, self.stage, nodes);
+        self.stage = step.0;
+        answer_with(step.1, step.2)
+    }
+
+    /// Ends the search: none of its latches stands afterwards.
+    pub fn end<N: Nodes>(&mut self, nodes: &mut N)
+        requires stands { Stands self.old.walk self.old.stage (N.world nodes.old) }
+        requires open { IsSearching self.old.above self.old.stage }
+        ensures walk { self.new.walk ≡ self.old.walk }
+        ensures above { self.new.above ≡ self.old.above }
+        ensures ended { self.new.stage ≡ Stage.Ended }
+        ensures stepped { Stepped self.old.walk self.new.stage (N.world nodes.old) (N.world nodes.new) }
+        ensures keys { KeepsKeys (N.world nodes.old) (N.world nodes.new) }
+        ensures given_back { HasNone self.old.walk.op (N.world nodes.new) }
+        ensures faults { N.faults nodes.new ≡ N.faults nodes.old }
+    {
+        nodes.free_all(self.walk.op);
+        self.stage = Stage::Ended;
+    }
+}
+
+/// The turn of a search at a stage.
+fn search_step<N: Nodes>(
+    alloc: Global,
+    walk: &Walk,
+    above: bool,
+    stage: Stage,
+    nodes: &mut N,
+) -> (Stage, Turn<()>, Option<Pair>)
+    requires stands { Stands walk.now stage (N.world nodes.old) }
+    requires open { IsSearching above stage }
+    ensures stepped { Stepped walk.now result.0 (N.world nodes.old) (N.world nodes.new) }
+    ensures keys { KeepsKeys (N.world nodes.old) (N.world nodes.new) }
+    ensures found { TellsFound walk.now above result.1 result.2 (N.world nodes.old) }
+    ensures searching { IsSearching above result.0 }
+    ensures busy { OnBusy result.1 (IsInTheWay (N.flushes nodes.old) (N.world nodes.old) walk.now.op) }
+    ensures cause { CausedTurn result.1 (N.faults nodes.old) (N.faults nodes.new) (N.halted nodes.old) (N.halted nodes.new) }
+{
+    if let Stage::Shared { page, above: over } = stage {
+        return look_shared(alloc, walk, over, nodes, page);
+    }
+    let step = find_shared(walk, above, stage, nodes);
+    (step.0, step.1, None)
+}
+
+/// One turn on the way to a leaf that is to be shared.
+fn find_shared<N: Nodes>(walk: &Walk, above: bool, stage: Stage, nodes: &mut N) -> (Stage, Turn<()>)
+    requires stands { Stands walk.now stage (N.world nodes.old) }
+    requires open { IsSeeking above stage }
+    ensures stepped { Stepped walk.now result.0 (N.world nodes.old) (N.world nodes.new) }
+    ensures keys { KeepsKeys (N.world nodes.old) (N.world nodes.new) }
+    ensures going { is_done result.1 ≡ false }
+    ensures searching { IsSearching above result.0 }
+    ensures busy { OnBusy result.1 (IsInTheWay (N.flushes nodes.old) (N.world nodes.old) walk.now.op) }
+    ensures cause { CausedTurn result.1 (N.faults nodes.old) (N.faults nodes.new) (N.halted nodes.old) (N.halted nodes.new) }
+{
+    match stage {
+        Stage::Start => return start(walk, nodes),
+        Stage::Down { page } => return descend(walk, nodes, page),
+        Stage::Leaf { page } => return share_leaf(walk, above, nodes, page),
+        Stage::Share { page, above: over } => return share_next(walk, over, nodes, page),
+        Stage::Held { page: _ } => unreachable!(),
+        Stage::Full { page: _ } => unreachable!(),
+        Stage::Split { page: _, right: _ } => unreachable!(),
+        Stage::Cut { page: _, right: _ } => unreachable!(),
+        Stage::Shared { page: _, above: _ } => unreachable!(),
+        Stage::Ended => unreachable!(),
+    }
+}
+
+/// Shares the leaf that was found.
+pub(crate) fn share_leaf<N: Nodes>(
+    walk: &Walk,
+    above: bool,
+    nodes: &mut N,
+    page: u64,
+) -> (Stage, Turn<()>)
+    requires { Stands walk.now (Stage.Leaf page) (N.world nodes.old) }
+    ensures stepped { Stepped walk.now result.0 (N.world nodes.old) (N.world nodes.new) }
+    ensures keys { KeepsKeys (N.world nodes.old) (N.world nodes.new) }
+    ensures going { is_done result.1 ≡ false }
+    ensures searching { IsSearching above result.0 }
+    ensures busy { OnBusy result.1 (IsInTheWay (N.flushes nodes.old) (N.world nodes.old) walk.now.op) }
+    ensures given_back { OnBusy result.1 (λ _. HasNone walk.now.op (N.world nodes.new)) }
+    ensures cause { CausedTurn result.1 (N.faults nodes.old) (N.faults nodes.new) (N.halted nodes.old) (N.halted nodes.new) }
+{
+    match nodes.share(walk.op, page) {
+        Turn::Done(()) => return (Stage::Shared { page, above }, Turn::More),
+        Turn::More => return (Stage::Leaf { page }, Turn::More),
+        Turn::Busy { op } => {
+            nodes.free_all(walk.op);
+            return (Stage::Start, Turn::Busy { op });
+        }
+        Turn::Refused(fault) => return (Stage::Leaf { page }, Turn::Refused(fault)),
+    }
+}
+
+/// Shares the next leaf too.
+pub(crate) fn share_next<N: Nodes>(
+    walk: &Walk,
+    above: bool,
+    nodes: &mut N,
+    page: u64,
+) -> (Stage, Turn<()>)
+    requires { Stands walk.now (Stage.Share page above) (N.world nodes.old) }
+    ensures stepped { Stepped walk.now result.0 (N.world nodes.old) (N.world nodes.new) }
+    ensures keys { KeepsKeys (N.world nodes.old) (N.world nodes.new) }
+    ensures going { is_done result.1 ≡ false }
+    ensures searching { IsSearching above result.0 }
+    ensures busy { OnBusy result.1 (IsInTheWay (N.flushes nodes.old) (N.world nodes.old) walk.now.op) }
+    ensures given_back { OnBusy result.1 (λ _. HasNone walk.now.op (N.world nodes.new)) }
+    ensures cause { CausedTurn result.1 (N.faults nodes.old) (N.faults nodes.new) (N.halted nodes.old) (N.halted nodes.new) }
+{
+    match nodes.share(walk.op, page) {
+        Turn::Done(()) => return (Stage::Shared { page, above }, Turn::More),
+        Turn::More => return (Stage::Share { page, above }, Turn::More),
+        Turn::Busy { op } => {
+            nodes.free_all(walk.op);
+            return (Stage::Start, Turn::Busy { op });
+        }
+        Turn::Refused(fault) => return (Stage::Share { page, above }, Turn::Refused(fault)),
+    }
+}
+
+/// Looks at the leaf that it has: answers a pair of it, or goes on to the next leaf and keeps this
+/// one. A leaf that was cut before it was shared is given back.
+pub(crate) fn look_shared<N: Nodes>(
+    alloc: Global,
+    walk: &Walk,
+    above: bool,
+    nodes: &mut N,
+    page: u64,
+) -> (Stage, Turn<()>, Option<Pair>)
+    requires { Stands walk.now (Stage.Shared page above) (N.world nodes.old) }
+    ensures stepped { Stepped walk.now result.0 (N.world nodes.old) (N.world nodes.new) }
+    ensures keys { KeepsKeys (N.world nodes.old) (N.world nodes.new) }
+    ensures found { TellsFound walk.now above result.1 result.2 (N.world nodes.old) }
+    ensures searching { IsSearching above result.0 }
+    ensures busy { OnBusy result.1 (IsInTheWay (N.flushes nodes.old) (N.world nodes.old) walk.now.op) }
+    ensures cause { CausedTurn result.1 (N.faults nodes.old) (N.faults nodes.new) (N.halted nodes.old) (N.halted nodes.new) }
+{
+    let mut node = Node::new(0, 0, true, 1);
+    let seen = nodes.look(walk.op, page, &mut node);
+    if !is_done(&seen) {
+        return (Stage::Shared { page, above }, seen, None);
+    }
+    if let Place::Right(right) = node.next_place(&walk.target) {
+        nodes.free(walk.op, page);
+        return (Stage::Down { page: right }, Turn::More, None);
+    }
+    let place = node.count_ahead(&walk.target, above);
+    if place < node.count() {
+        let pair = node.pair(alloc, place);
+        return (Stage::Shared { page, above }, Turn::Done(()), Some(pair));
+    }
+    match node.next_place(&Target::Last) {
+        Place::Right(right) => return (Stage::Share { page: right, above }, Turn::More, None),
+        Place::Down(_) => {
+            return (
+                Stage::Shared { page, above },
+                Turn::Refused(nodes.bad(page)),
+                None,
+            );
+        }
+        Place::Here(_) => return (Stage::Shared { page, above }, Turn::Done(()), None),
+        Place::End => return (Stage::Shared { page, above }, Turn::Done(()), None),
+    }
+}

@@ -1,0 +1,94 @@
+//! The split of a full leaf in three moves: a page is allocated, the right half written into it,
+//! and the left node cut.
+
+ghost use Rattle.std.specs.Prelude.{◌≡◌, IsTrue, false, true};
+ghost use Rattle.ct_node.specs.Turns.{OnBusy, CausedTurn};
+ghost use Rattle.ct_tree_laws.specs.Stands.{Stands, Stepped, KeepsKeys};
+ghost use Rattle.ct_tree.specs.Answers.{is_done, IsInTheWay, IsPutting};
+
+use crate::descent::is_done;
+use ct_disk::Turn;
+use ct_node::{Mark, Node, Nodes};
+use ct_tree_laws::{Stage, Walk};
+
+/// Allocates the page of the right half.
+pub(crate) fn allocate<N: Nodes>(walk: &Walk, nodes: &mut N, page: u64) -> (Stage, Turn<()>)
+    requires { Stands walk.now (Stage.Full page) (N.world nodes.old) }
+    ensures stepped { Stepped walk.now result.0 (N.world nodes.old) (N.world nodes.new) }
+    ensures keys { KeepsKeys (N.world nodes.old) (N.world nodes.new) }
+    ensures going { is_done result.1 ≡ false }
+    ensures putting { IsPutting result.0 }
+    ensures busy { OnBusy result.1 (IsInTheWay (N.flushes nodes.old) (N.world nodes.old) walk.now.op) }
+    ensures cause { CausedTurn result.1 (N.faults nodes.old) (N.faults nodes.new) (N.halted nodes.old) (N.halted nodes.new) }
+{
+    match nodes.fresh(walk.op) {
+        Turn::Done(right) => return (Stage::Split { page, right }, Turn::More),
+        Turn::More => return (Stage::Full { page }, Turn::More),
+        Turn::Busy { op } => return (Stage::Full { page }, Turn::Busy { op }),
+        Turn::Refused(fault) => return (Stage::Full { page }, Turn::Refused(fault)),
+    }
+}
+
+/// Writes the right half.
+pub(crate) fn write_right<N: Nodes>(
+    walk: &Walk,
+    nodes: &mut N,
+    page: u64,
+    right: u64,
+) -> (Stage, Turn<()>)
+    requires { Stands walk.now (Stage.Split page right) (N.world nodes.old) }
+    ensures stepped { Stepped walk.now result.0 (N.world nodes.old) (N.world nodes.new) }
+    ensures keys { KeepsKeys (N.world nodes.old) (N.world nodes.new) }
+    ensures going { is_done result.1 ≡ false }
+    ensures putting { IsPutting result.0 }
+    ensures busy { OnBusy result.1 (IsInTheWay (N.flushes nodes.old) (N.world nodes.old) walk.now.op) }
+    ensures cause { CausedTurn result.1 (N.faults nodes.old) (N.faults nodes.new) (N.halted nodes.old) (N.halted nodes.new) }
+{
+    let mut node = Node::new(0, 0, true, 1);
+    let seen = nodes.look(walk.op, page, &mut node);
+    if !is_done(&seen) {
+        return (Stage::Split { page, right }, seen);
+    }
+    if node.count() < 2 {
+        return (Stage::Split { page, right }, Turn::Refused(nodes.bad(page)));
+    }
+    let mut upper = Node::new(0, 0, true, 1);
+    node.upper_half(&mut upper);
+    let edited = nodes.edit(walk.op, right, &upper, Mark::NONE);
+    if !is_done(&edited) {
+        return (Stage::Split { page, right }, edited);
+    }
+    (Stage::Cut { page, right }, Turn::More)
+}
+
+/// Cuts the left node, and gives it back: its right link leads to the page that was written.
+pub(crate) fn cut_left<N: Nodes>(
+    walk: &Walk,
+    nodes: &mut N,
+    page: u64,
+    right: u64,
+) -> (Stage, Turn<()>)
+    requires { Stands walk.now (Stage.Cut page right) (N.world nodes.old) }
+    ensures stepped { Stepped walk.now result.0 (N.world nodes.old) (N.world nodes.new) }
+    ensures keys { KeepsKeys (N.world nodes.old) (N.world nodes.new) }
+    ensures going { is_done result.1 ≡ false }
+    ensures putting { IsPutting result.0 }
+    ensures busy { OnBusy result.1 (IsInTheWay (N.flushes nodes.old) (N.world nodes.old) walk.now.op) }
+    ensures cause { CausedTurn result.1 (N.faults nodes.old) (N.faults nodes.new) (N.halted nodes.old) (N.halted nodes.new) }
+{
+    let mut node = Node::new(0, 0, true, 1);
+    let seen = nodes.look(walk.op, page, &mut node);
+    if !is_done(&seen) {
+        return (Stage::Cut { page, right }, seen);
+    }
+    if node.count() < 2 {
+        return (Stage::Cut { page, right }, Turn::Refused(nodes.bad(page)));
+    }
+    node.cut(right);
+    let edited = nodes.edit(walk.op, page, &node, Mark::NONE);
+    if !is_done(&edited) {
+        return (Stage::Cut { page, right }, edited);
+    }
+    nodes.free(walk.op, page);
+    (Stage::Start, Turn::More)
+}

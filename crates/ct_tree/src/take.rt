@@ -1,0 +1,157 @@
+//! Taking a pair: the leaf found, made the operation's own, and written without the pair.
+
+ghost use Rattle.std.specs.Prelude.{◌≡◌, ◌≤◌, ◌==◌, ◌&&◌, IsTrue, false, true, length};
+ghost use Rattle.ct_node.specs.Places.{is_past};
+ghost use Rattle.ct_node.specs.Worlds.{Holds, page_at};
+ghost use Rattle.ct_node.specs.Turns.{OnBusy, CausedTurn};
+ghost use Rattle.ct_tree_laws.specs.Stands.{Stands, Stepped};
+ghost use Rattle.ct_tree.specs.Answers.{IsPair, TakesKeys, TellsTaken, TakenKeys, IsTaken, IsInTheWay, IsTaking, TakeGoesOn};
+
+use crate::descent::{answer_with, find_leaf, is_done, is_for};
+use ct_disk::Turn;
+use ct_node::{Mark, Node, Nodes, Place, Root, Target};
+use ct_tree_laws::{Stage, Walk};
+
+/// Takes one pair out of an index, in turns.
+#[derive(Drop)]
+pub struct Take {
+    pub walk: Walk,
+    pub mark: Mark,
+    pub stage: Stage,
+}
+
+impl Take {
+    /// A take of the pair that the target is. The edit that takes it bears the mark, and no other
+    /// does.
+    pub fn new(op: u64, at: Root, target: Target, mark: Mark) -> Take
+        requires { IsPair target }
+        ensures walk { result.walk ≡ record { op = op; at = at; target = target } }
+        ensures mark { result.mark ≡ mark }
+        ensures stage { result.stage ≡ Stage.Start }
+    {
+        Take {
+            walk: Walk { op, at, target },
+            mark,
+            stage: Stage::Start,
+        }
+    }
+
+    /// One turn. The turn that answers `Done` has taken the pair, tells whether it was there, and has
+    /// given back what the take took; no other turn changes the pairs of any index.
+    pub fn turn<N: Nodes>(&mut self, nodes: &mut N) -> Turn<bool>
+        requires stands { Stands self.old.walk self.old.stage (N.world nodes.old) }
+        requires pair { IsPair self.old.walk.target }
+        requires open { IsTaking self.old.stage }
+        requires mark { N.allows nodes.old self.old.walk.op self.old.mark }
+        ensures walk { self.new.walk ≡ self.old.walk }
+        ensures mark { self.new.mark ≡ self.old.mark }
+        ensures stepped { Stepped self.old.walk self.new.stage (N.world nodes.old) (N.world nodes.new) }
+        ensures keys { TakenKeys self.old.walk result (N.world nodes.old) (N.world nodes.new) }
+        ensures found { IsTaken self.old.walk result (N.world nodes.old) }
+        ensures goes { TakeGoesOn result self.new.stage }
+        ensures busy { OnBusy result (IsInTheWay (N.flushes nodes.old) (N.world nodes.old) self.old.walk.op) }
+        ensures cause { CausedTurn result (N.faults nodes.old) (N.faults nodes.new) (N.halted nodes.old) (N.halted nodes.new) }
+    {
+        let step = take_step(&self.walk, self.mark, self.stage, nodes);
+        self.stage = step.0;
+        answer_with(step.1, step.2)
+    }
+}
+
+/// The turn of a take at a stage.
+fn take_step<N: Nodes>(
+    walk: &Walk,
+    mark: Mark,
+    stage: Stage,
+    nodes: &mut N,
+) -> (Stage, Turn<()>, bool)
+    requires stands { Stands walk.now stage (N.world nodes.old) }
+    requires pair { IsPair walk.now.target }
+    requires open { IsTaking stage }
+    requires mark { N.allows nodes.old walk.now.op mark }
+    ensures stepped { Stepped walk.now result.0 (N.world nodes.old) (N.world nodes.new) }
+    ensures keys { TakesKeys walk.now result.1 (N.world nodes.old) (N.world nodes.new) }
+    ensures found { TellsTaken walk.now result.1 result.2 (N.world nodes.old) }
+    ensures goes { TakeGoesOn result.1 result.0 }
+    ensures busy { OnBusy result.1 (IsInTheWay (N.flushes nodes.old) (N.world nodes.old) walk.now.op) }
+    ensures cause { CausedTurn result.1 (N.faults nodes.old) (N.faults nodes.new) (N.halted nodes.old) (N.halted nodes.new) }
+{
+    if let Stage::Held { page } = stage {
+        return take_held(walk, mark, nodes, page);
+    }
+    let step = find_leaf(walk, stage, nodes);
+    (step.0, step.1, false)
+}
+
+/// Looks at the leaf again, now that it is the operation's own: goes on to the right, or takes the
+/// pair. The last of the answer tells whether it was there.
+pub(crate) fn take_held<N: Nodes>(
+    walk: &Walk,
+    mark: Mark,
+    nodes: &mut N,
+    page: u64,
+) -> (Stage, Turn<()>, bool)
+    requires stands { Stands walk.now (Stage.Held page) (N.world nodes.old) }
+    requires pair { IsPair walk.now.target }
+    requires mark { N.allows nodes.old walk.now.op mark }
+    ensures stepped { Stepped walk.now result.0 (N.world nodes.old) (N.world nodes.new) }
+    ensures keys { TakesKeys walk.now result.1 (N.world nodes.old) (N.world nodes.new) }
+    ensures found { TellsTaken walk.now result.1 result.2 (N.world nodes.old) }
+    ensures goes { TakeGoesOn result.1 result.0 }
+    ensures busy { OnBusy result.1 (IsInTheWay (N.flushes nodes.old) (N.world nodes.old) walk.now.op) }
+    ensures cause { CausedTurn result.1 (N.faults nodes.old) (N.faults nodes.new) (N.halted nodes.old) (N.halted nodes.new) }
+{
+    let mut node = Node::new(0, 0, true, 1);
+    let seen = nodes.look(walk.op, page, &mut node);
+    if !is_done(&seen) {
+        return (Stage::Held { page }, seen, false);
+    }
+    match node.next_place(&walk.target) {
+        Place::Right(right) => {
+            nodes.free(walk.op, page);
+            return (Stage::Down { page: right }, Turn::More, false);
+        }
+        Place::Down(_) => return (Stage::Held { page }, Turn::Refused(nodes.bad(page)), false),
+        Place::Here(_) => return take_here(walk, mark, nodes, page, &mut node),
+        Place::End => return take_here(walk, mark, nodes, page, &mut node),
+    }
+}
+
+/// Takes the pair out of the leaf, where it is there.
+fn take_here<N: Nodes>(
+    walk: &Walk,
+    mark: Mark,
+    nodes: &mut N,
+    page: u64,
+    node: &mut Node,
+) -> (Stage, Turn<()>, bool)
+    requires stands { Stands walk.now (Stage.Held page) (N.world nodes.old) }
+    requires pair { IsPair walk.now.target }
+    requires mark { N.allows nodes.old walk.now.op mark }
+    requires seen { page_at (N.world nodes.old) page ≡ Holds node.old }
+    requires within { is_past node.old.high walk.now.target ≡ false }
+    ensures stepped { Stepped walk.now result.0 (N.world nodes.old) (N.world nodes.new) }
+    ensures keys { TakesKeys walk.now result.1 (N.world nodes.old) (N.world nodes.new) }
+    ensures found { TellsTaken walk.now result.1 result.2 (N.world nodes.old) }
+    ensures goes { TakeGoesOn result.1 result.0 }
+    ensures busy { OnBusy result.1 (IsInTheWay (N.flushes nodes.old) (N.world nodes.old) walk.now.op) }
+    ensures cause { CausedTurn result.1 (N.faults nodes.old) (N.faults nodes.new) (N.halted nodes.old) (N.halted nodes.new) }
+{
+    let Target::At(pair) = &walk.target else {
+        unreachable!();
+    };
+    if !is_for(node, pair) {
+        return (Stage::Held { page }, Turn::Refused(nodes.bad(page)), false);
+    }
+    if !node.take(pair) {
+        nodes.free(walk.op, page);
+        return (Stage::Ended, Turn::Done(()), false);
+    }
+    let _count = node.count();
+    let edited = nodes.edit(walk.op, page, node, mark);
+    if !is_done(&edited) {
+        return (Stage::Held { page }, edited, false);
+    }
+    nodes.free(walk.op, page);
+    (Stage::Ended, Turn::Done(()), true)
+}

@@ -1,0 +1,17 @@
+pub mod Holders
+pub mod Taking
+pub mod Pages
+pub mod Kept
+pub mod Chains
+pub mod Steps
+pub mod Edits
+pub mod Cuts
+pub mod Memory
+pub mod Keys
+pub mod Walking
+pub mod Turns
+pub mod PutTurns
+pub mod SplitTurns
+pub mod SearchTurns
+pub mod Finds
+pub mod NewTree
