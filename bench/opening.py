@@ -3,14 +3,15 @@
 
 Writes logs of ever more commits of one record each, of 8 and of 150 bytes, in the format of
 docs/formats.md. Opens each with `ctisam DIR check`, the program itself and not the script that
-builds it, and reads it with `cat` into /dev/null. Prints the best of five times of each, with the
-file in the page cache, and their ratio; beside it the processor time of the opening, which other
-work does not lengthen.
+builds it, and reads it with `cat` into /dev/null. Prints the best of five times of each and their
+ratio, once with the file in the page cache and once with it read from the disk, as after a
+restart; beside it the processor time of the opening, which other work does not lengthen.
 
     bench/opening.py [COMMITS ..]
 """
 
 import itertools
+import os
 import pathlib
 import resource
 import struct
@@ -60,40 +61,41 @@ def log(count, size):
     return header.ljust(4096, b"\x00") + bytes(8192) + chunks + b"\x00"
 
 
-def best(words):
+def forget(path):
+    """Lets a file leave the page cache, as after a restart."""
+    with open(path, "rb") as file:
+        os.fsync(file.fileno())
+        os.posix_fadvise(file.fileno(), 0, 0, os.POSIX_FADV_DONTNEED)
+
+
+def best(words, path, cached):
     """The least time of some runs, the least processor time, and what they printed."""
     times, processor = [], []
     for _ in range(RUNS):
+        if not cached:
+            forget(path)
         before = resource.getrusage(resource.RUSAGE_CHILDREN)
         begin = time.monotonic()
-        done = subprocess.run(words, check=True, stdout=subprocess.PIPE)
+        done = subprocess.run(words, check=True, stdout=subprocess.PIPE if words[0] == PROGRAM else subprocess.DEVNULL)
         times.append(time.monotonic() - begin)
         after = resource.getrusage(resource.RUSAGE_CHILDREN)
         processor.append(after.ru_utime + after.ru_stime - before.ru_utime - before.ru_stime)
     return min(times), min(processor), done.stdout
 
 
-def best_of_cat(path):
-    """The least time of some runs of `cat`, its output to nowhere."""
-    times = []
-    for _ in range(RUNS):
-        begin = time.monotonic()
-        subprocess.run(["cat", path], check=True, stdout=subprocess.DEVNULL)
-        times.append(time.monotonic() - begin)
-    return min(times)
-
-
 def measure(count, size):
     with tempfile.TemporaryDirectory(dir=".") as folder:
         path = pathlib.Path(folder) / "log.ct"
         path.write_bytes(log(count, size))
-        read = best_of_cat(path)
-        opened, processor, told = best([PROGRAM, folder, "check"])
-    assert told == b"OK %d 1 %d\n" % (count, count - 1), told
-    print(
-        f"{count} commits of {size} bytes: opened in {opened:.3f} s ({processor:.3f} s of a processor),"
-        f" read by cat in {read:.4f} s, ratio {opened / read:.0f}"
-    )
+        for cached in (True, False):
+            read, _, _ = best(["cat", path], path, cached)
+            opened, processor, told = best([PROGRAM, folder, "check"], path, cached)
+            assert told == b"OK %d 1 %d\n" % (count, count - 1), told
+            print(
+                f"{count} commits of {size} bytes from {'the page cache' if cached else 'the disk'}:"
+                f" opened in {opened:.3f} s ({processor:.3f} s of a processor),"
+                f" read by cat in {read:.4f} s, ratio {opened / read:.0f}"
+            )
 
 
 def main():
