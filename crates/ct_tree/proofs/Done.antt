@@ -12,7 +12,8 @@ use Rattle.ct_node.specs.Worlds.{World, IsTidy}
 use Rattle.ct_tree_laws.specs.declared.walk.Walk.{Walk}
 use Rattle.ct_tree_laws.specs.declared.walk.Stage.{Stage}
 use Rattle.ct_tree_laws.specs.declared.walk.Stage.TheVariants as stage
-use Rattle.ct_tree_laws.specs.Stands.{KeepsKeys, Stands}
+use Rattle.ct_tree_laws.specs.Stands.{KeepsKeys, Stands, Stepped, HasNone}
+use Rattle.ct_tree_laws.proofs.SearchTurns.{ended_none}
 use Rattle.ct_node.specs.Turns.{OnDone, OnBusy, After, LatchedBy, CausedTurn}
 use Rattle.ct_tree.specs.Answers.{is_done, is_for, PutsKeys, IsPutting, GoesOn, answer_with, TakeGoesOn, TakesKeys, TakenKeys, TellsTaken, IsTaken, TellsFound, IsFound, IsTaking, IsFinding, IsSearching, IsSeeking}
 
@@ -158,7 +159,7 @@ seeking_from above stage.Ended is other = is
 
 -- a search has no page that is written and reached by no link
 pub search_tidy : (walk : Walk) (above : Bool) (at : Stage) (w : World) → IsSearching above at → Stands walk at w → IsTrue w.founded → IsTidy walk.op w
-search_tidy walk above stage.Start w is stands founded = (stands founded).place
+search_tidy walk above stage.Start w is stands founded = (stands founded).place.0
 search_tidy walk above (stage.Down page) w is stands founded = (stands founded).place.0
 search_tidy walk above (stage.Leaf page) w is stands founded = (stands founded).place.0
 search_tidy walk above (stage.Held page) w is stands founded = absurd is
@@ -168,3 +169,16 @@ search_tidy walk above (stage.Cut page right) w is stands founded = absurd is
 search_tidy walk above (stage.Share page over) w is stands founded = (stands founded).place.0
 search_tidy walk above (stage.Shared page over) w is stands founded = (stands founded).place.0
 search_tidy walk above stage.Ended w is stands founded = absurd is
+
+-- an operation that is done has given all its latches back
+pub given_back : {T : Type 0} (walk : Walk) (turn : Turn (Unit {0})) (told : T) (to : Stage) (w now : World) → TakeGoesOn turn to → Stepped walk to w now → OnDone (answer_with turn told) (λ _. IsTrue w.founded → HasNone walk.op now)
+given_back walk (Done answer) told to w now goes stepped = λ founded. ended_none walk to w now stepped goes founded
+given_back walk More told to w now goes stepped = tt
+given_back walk (Busy op) told to w now goes stepped = tt
+given_back walk (Refused fault) told to w now goes stepped = tt
+
+pub put_given_back : (walk : Walk) (turn : Turn (Unit {0})) (to : Stage) (w now : World) → GoesOn turn to → Stepped walk to w now → OnDone turn (λ _. IsTrue w.founded → HasNone walk.op now)
+put_given_back walk (Done answer) to w now goes stepped = λ founded. ended_none walk to w now stepped goes founded
+put_given_back walk More to w now goes stepped = tt
+put_given_back walk (Busy op) to w now goes stepped = tt
+put_given_back walk (Refused fault) to w now goes stepped = tt

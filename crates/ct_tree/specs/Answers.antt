@@ -9,7 +9,7 @@ use Rattle.ct_node.specs.declared.target.Target.{Target}
 use Rattle.ct_node.specs.declared.target.Target.TheVariants.{First, Last, At, Before}
 use Rattle.ct_node.specs.Nodes.{NodeValue, is_within, has_pair}
 use Rattle.ct_node.specs.Places.{is_ahead}
-use Rattle.ct_node.specs.Worlds.{World, has_latch}
+use Rattle.ct_node.specs.Worlds.{World}
 use Rattle.ct_tree_laws.specs.declared.walk.Walk.{Walk}
 use Rattle.ct_tree_laws.specs.declared.walk.Stage.{Stage}
 use Rattle.ct_tree_laws.specs.declared.walk.Stage.TheVariants as stage
@@ -89,10 +89,6 @@ TellsFound walk above (Done answer) found w = IsTrue w.founded → (keys : List 
 TellsFound walk above More found w = Unit {0}
 TellsFound walk above (Busy op) found w = Unit {0}
 TellsFound walk above (Refused fault) found w = Unit {0}
-
--- an operation has no latch
-abbrev pub HasNone : ℕ → World → Type 0
-HasNone op w = (page : ℕ) → has_latch op page w ≡ false
 
 -- the stages of a put or take that has not ended
 abbrev pub IsPutting : Stage → Type 0

@@ -3,8 +3,8 @@
 ghost use Rattle.std.specs.Prelude.{◌≡◌, ◌≤◌, ◌==◌, ◌&&◌, IsTrue, false, true, length};
 ghost use Rattle.ct_node.specs.Places.{is_past};
 ghost use Rattle.ct_node.specs.Worlds.{Holds, page_at};
-ghost use Rattle.ct_node.specs.Turns.{OnBusy, CausedTurn};
-ghost use Rattle.ct_tree_laws.specs.Stands.{Stands, Stepped};
+ghost use Rattle.ct_node.specs.Turns.{OnDone, OnBusy, CausedTurn};
+ghost use Rattle.ct_tree_laws.specs.Stands.{Stands, Stepped, HasNone};
 ghost use Rattle.ct_tree.specs.Answers.{IsPair, PutsKeys, IsInTheWay, IsPutting, GoesOn};
 
 use crate::descent::{descend, is_done, is_for, own_leaf, start};
@@ -48,6 +48,7 @@ impl Put {
         ensures stepped { Stepped self.old.walk self.new.stage (N.world nodes.old) (N.world nodes.new) }
         ensures keys { PutsKeys self.old.walk result (N.world nodes.old) (N.world nodes.new) }
         ensures goes { GoesOn result self.new.stage }
+        ensures given_back { OnDone result (λ _. IsTrue (N.world nodes.old).founded → HasNone self.old.walk.op (N.world nodes.new)) }
         ensures busy { OnBusy result (IsInTheWay (N.flushes nodes.old) (N.world nodes.old) self.old.walk.op) }
         ensures cause { CausedTurn result (N.faults nodes.old) (N.faults nodes.new) (N.halted nodes.old) (N.halted nodes.new) }
     {

@@ -2,8 +2,8 @@
 
 ghost use Rattle.std.specs.Prelude.{◌≡◌, ◌≤◌, ◌<◌, IsTrue, false, true, length};
 ghost use Rattle.ct_node.specs.Turns.{OnBusy, CausedTurn};
-ghost use Rattle.ct_tree_laws.specs.Stands.{Stands, Stepped, KeepsKeys};
-ghost use Rattle.ct_tree.specs.Answers.{is_done, TellsFound, IsFound, HasNone, IsInTheWay, IsSearching, IsSeeking};
+ghost use Rattle.ct_tree_laws.specs.Stands.{Stands, Stepped, KeepsKeys, HasNone};
+ghost use Rattle.ct_tree.specs.Answers.{is_done, TellsFound, IsFound, IsInTheWay, IsSearching, IsSeeking};
 
 use crate::descent::{answer_with, descend, is_done, start};
 use ct_disk::Turn;
@@ -199,7 +199,7 @@ pub(crate) fn look_shared<N: Nodes>(
         return (Stage::Shared { page, above }, seen, None);
     }
     if let Place::Right(right) = node.next_place(&walk.target) {
-        nodes.free(walk.op, page);
+        nodes.free_all(walk.op);
         return (Stage::Down { page: right }, Turn::More, None);
     }
     let place = node.count_ahead(&walk.target, above);
