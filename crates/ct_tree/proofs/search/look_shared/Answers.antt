@@ -38,6 +38,7 @@ returns-then-place-count g c =
       keys = keys_same w now c.look-seen.ensures.world;
       found = λ founded keys chain. sym (search_some c.args.walk.now c.args.above c.args.page node c.pair-pair.result w is (ap (slice_get (pairs_in node)) (sym c.count_ahead-place.ensures) ∙ c.pair-pair.ensures) (c.requires founded) keys chain);
       searching = refl;
+      bears = c.look-seen.ensures.marked;
       busy = tt;
       cause = cause;
     }
@@ -57,6 +58,7 @@ returns-in-Right-next_place g c =
       keys = keys_same w now c.look-seen.ensures.world;
       found = tt;
       searching = refl;
+      bears = c.look-seen.ensures.marked;
       busy = tt;
       cause = cause;
     }
@@ -76,6 +78,7 @@ returns-in-Here g c =
       keys = keys_same w now c.look-seen.ensures.world;
       found = λ founded keys chain. sym (search_none c.args.walk.now c.args.above c.args.page node w is clear (λ q one. let here : Here c.in-Here.field-0 ≡ Right q = c.in-Here.ensures ∙ one in absurd (cc)) (c.requires founded) keys chain);
       searching = refl;
+      bears = c.look-seen.ensures.marked;
       busy = tt;
       cause = cause;
     }
@@ -95,6 +98,7 @@ returns-in-End g c =
       keys = keys_same w now c.look-seen.ensures.world;
       found = λ founded keys chain. sym (search_none c.args.walk.now c.args.above c.args.page node w is clear (λ q one. let here : End ≡ Right q = c.in-End.ensures ∙ one in absurd (cc)) (c.requires founded) keys chain);
       searching = refl;
+      bears = c.look-seen.ensures.marked;
       busy = tt;
       cause = cause;
     }
