@@ -7,6 +7,7 @@ use Rattle.ct_disk.specs.declared.turn.StepFault.TheVariants.{Read, Halted, Memo
 use Rattle.ct_disk.specs.declared.turn.HaltCause.{HaltCause}
 use Rattle.ct_disk.specs.Disk.{Rose}
 use Rattle.ct_latch.specs.declared.hold.Hold.{Hold}
+use Rattle.ct_node.specs.declared.root.Mark.{Mark}
 use Rattle.ct_node.specs.Worlds.{World}
 
 -- a fact of what was answered
@@ -49,3 +50,10 @@ CausedTurn (Done answer) before now halted halts = (now ≡ before) × (halts �
 CausedTurn More before now halted halts = (now ≡ before) × (halts ≡ halted)
 CausedTurn (Busy op) before now halted halts = (now ≡ before) × (halts ≡ halted)
 CausedTurn (Refused fault) before now halted halts = Caused fault before now halted halts
+
+-- the mark that the last edit bore: that of an edit that was done, and else the one from before
+abbrev pub Bears : {T : Type 0} → Turn T → Mark → Mark → Mark → Type 0
+Bears (Done answer) mark before now = now ≡ mark
+Bears More mark before now = now ≡ before
+Bears (Busy op) mark before now = now ≡ before
+Bears (Refused fault) mark before now = now ≡ before

@@ -32,6 +32,7 @@ pub struct MemNodes {
     faults: u64,
     calls: u64,
     failing: Vec<u64>,
+    last: Mark,
 }
 
 impl MemNodes {
@@ -58,6 +59,7 @@ impl MemNodes {
             faults: 0,
             calls: 0,
             failing: Vec::new(alloc),
+            last: Mark::NONE,
         })
     }
 
@@ -85,6 +87,7 @@ impl MemNodes {
     /// Why a call is refused, if it is.
     fn refusal(&mut self) -> Option<StepFault>
         ensures world { world_of self.new ≡ world_of self.old }
+        ensures last { self.new.last ≡ self.old.last }
         ensures cause { MatchOption result ((self.new.faults ≡ self.old.faults) × (self.new.halted ≡ self.old.halted)) (λ fault. Caused fault self.old.faults self.new.faults self.old.halted self.new.halted) }
     {
         if let Some(cause) = self.halted {
@@ -101,6 +104,7 @@ impl MemNodes {
     /// Halts for a page, unless it has halted already.
     fn halt(&mut self, page: u64) -> StepFault
         ensures world { world_of self.new ≡ world_of self.old }
+        ensures last { self.new.last ≡ self.old.last }
         ensures cause { Caused result self.old.faults self.new.faults self.old.halted self.new.halted }
     {
         if let Some(cause) = self.halted {
@@ -172,6 +176,8 @@ impl Nodes for MemNodes {
 
     ghost allows = { λ nodes op mark. Unit {0} };
 
+    ghost marked = { λ nodes. nodes.last };
+
     ghost allows_none = { λ nodes op. tt };
 
     fn look(&mut self, _op: u64, page: u64, into: &mut Node) -> Turn<()> {
@@ -188,7 +194,7 @@ impl Nodes for MemNodes {
         Turn::Refused(self.halt(page))
     }
 
-    fn edit(&mut self, op: u64, page: u64, node: &Node, _mark: Mark) -> Turn<()> {
+    fn edit(&mut self, op: u64, page: u64, node: &Node, mark: Mark) -> Turn<()> {
         if let Some(fault) = self.refusal() {
             return Turn::Refused(fault);
         }
@@ -200,6 +206,7 @@ impl Nodes for MemNodes {
         node.copy_into(&mut copy);
         self.pages[page as usize] = MemPage::Tree(copy);
         link_page(&mut self.fresh, op, right);
+        self.last = mark;
         Turn::Done(())
     }
 

@@ -6,7 +6,7 @@ ghost use Rattle.ct_disk.specs.declared.turn.HaltCause.{HaltCause};
 ghost use Rattle.ct_disk.specs.declared.turn.StepFault.{StepFault};
 ghost use Rattle.ct_node.specs.declared.root.Mark.{Mark};
 ghost use Rattle.ct_node.specs.Worlds.{World, Holds, page_at, has_own, with_fresh, with_holds, edited, rooted, row_in, Move, RaisesRoot, IsTidy, no_mark};
-ghost use Rattle.ct_node.specs.Turns.{OnDone, OnBusy, After, LatchedBy, Caused, CausedTurn};
+ghost use Rattle.ct_node.specs.Turns.{OnDone, OnBusy, After, LatchedBy, Bears, Caused, CausedTurn};
 
 use crate::node::Node;
 use crate::root::{Mark, Root};
@@ -31,9 +31,13 @@ pub trait Nodes {
     /// Which steps of transactions an edit of an operation may bear.
     ghost allows: { Self → ℕ → Mark → Type 0 };
 
+    /// The mark that the last edit bore.
+    ghost marked: { Self → Mark };
+
     /// Copies the node of a page.
     fn look(&mut self, op: u64, page: u64, into: &mut Node) -> Turn<()>
         ensures seen { OnDone result (λ _. page_at (world self.old) page ≡ Holds into.new) }
+        ensures marked { marked self.new ≡ marked self.old }
         ensures world { world self.new ≡ world self.old }
         ensures busy { OnBusy result (λ other. flushes self.old ≡ Some other) }
         ensures flushes { OnDone result (λ _. flushes self.new ≡ flushes self.old) }
@@ -44,6 +48,7 @@ pub trait Nodes {
     fn edit(&mut self, op: u64, page: u64, node: &Node, mark: Mark) -> Turn<()>
         requires next { IsTrue (world self.old).founded → Move op page node.now mark (world self.old) }
         requires mark { allows self.old op mark }
+        ensures marked { Bears result mark (marked self.old) (marked self.new) }
         ensures world { After result (λ _. edited op page node.now (world self.old)) (world self.old) (world self.new) }
         ensures busy { OnBusy result (λ other. flushes self.old ≡ Some other) }
         ensures cause { CausedTurn result (faults self.old) (faults self.new) (halted self.old) (halted self.new) };
@@ -51,18 +56,21 @@ pub trait Nodes {
     /// Allocates a page, which belongs to the operation until a link reaches it.
     fn fresh(&mut self, op: u64) -> Turn<u64>
         ensures page { OnDone result (λ page. page ≡ length (world self.old).pages) }
+        ensures marked { marked self.new ≡ marked self.old }
         ensures world { After result (λ _. with_fresh op (world self.old)) (world self.old) (world self.new) }
         ensures busy { OnBusy result (λ other. flushes self.old ≡ Some other) }
         ensures cause { CausedTurn result (faults self.old) (faults self.new) (halted self.old) (halted self.new) };
 
     /// Lets an operation share a page, unless another has it for itself.
     fn share(&mut self, op: u64, page: u64) -> Turn<()>
+        ensures marked { marked self.new ≡ marked self.old }
         ensures world { After result (λ _. with_holds (with_share page op (world self.old).holds) (world self.old)) (world self.old) (world self.new) }
         ensures busy { LatchedBy result (find (bars page op false) (world self.old).holds) }
         ensures cause { CausedTurn result (faults self.old) (faults self.new) (halted self.old) (halted self.new) };
 
     /// Lets an operation have a page for itself, unless another holds it.
     fn own(&mut self, op: u64, page: u64) -> Turn<()>
+        ensures marked { marked self.new ≡ marked self.old }
         ensures world { After result (λ _. with_holds (with_hold (record { node = page; op = op; own = true }) (world self.old).holds) (world self.old)) (world self.old) (world self.new) }
         ensures busy { LatchedBy result (find (bars page op true) (world self.old).holds) }
         ensures cause { CausedTurn result (faults self.old) (faults self.new) (halted self.old) (halted self.new) };
@@ -70,6 +78,7 @@ pub trait Nodes {
     /// Gives back the latch that an operation has on a page, where it has one.
     fn free(&mut self, op: u64, page: u64)
         requires { IsTrue (world self.old).founded → IsTidy op (world self.old) }
+        ensures marked { marked self.new ≡ marked self.old }
         ensures world { world self.new ≡ with_holds (filter (λ hold. not (is_of page op hold)) (world self.old).holds) (world self.old) }
         ensures faults { faults self.new ≡ faults self.old }
         ensures halted { halted self.new ≡ halted self.old };
@@ -77,6 +86,7 @@ pub trait Nodes {
     /// Gives back all latches that an operation has.
     fn free_all(&mut self, op: u64)
         requires { IsTrue (world self.old).founded → IsTidy op (world self.old) }
+        ensures marked { marked self.new ≡ marked self.old }
         ensures world { world self.new ≡ with_holds (filter (λ hold. not (hold.op == op)) (world self.old).holds) (world self.old) }
         ensures faults { faults self.new ≡ faults self.old }
         ensures halted { halted self.new ≡ halted self.old };
@@ -84,6 +94,7 @@ pub trait Nodes {
     /// The page of an index's root.
     fn root(&mut self, op: u64, at: Root) -> Turn<u64>
         ensures seen { OnDone result (λ page. (row : _) × (row_in at.index (page_at (world self.old) at.page) ≡ Some row) × (page ≡ row.root)) }
+        ensures marked { marked self.new ≡ marked self.old }
         ensures world { world self.new ≡ world self.old }
         ensures busy { OnBusy result (λ other. flushes self.old ≡ Some other) }
         ensures cause { CausedTurn result (faults self.old) (faults self.new) (halted self.old) (halted self.new) };
@@ -91,6 +102,7 @@ pub trait Nodes {
     /// Names another root of an index.
     fn set_root(&mut self, op: u64, at: Root, page: u64) -> Turn<()>
         requires next { IsTrue (world self.old).founded → RaisesRoot op at page (world self.old) }
+        ensures marked { marked self.new ≡ marked self.old }
         ensures world { After result (λ _. rooted op at page (world self.old)) (world self.old) (world self.new) }
         ensures busy { OnBusy result (λ other. flushes self.old ≡ Some other) }
         ensures cause { CausedTurn result (faults self.old) (faults self.new) (halted self.old) (halted self.new) };
@@ -99,6 +111,7 @@ pub trait Nodes {
     /// pages. The cause of an earlier halt is kept.
     fn bad(&mut self, page: u64) -> StepFault
         requires { (world self.old).founded ≡ false }
+        ensures marked { marked self.new ≡ marked self.old }
         ensures world { world self.new ≡ world self.old }
         ensures cause { Caused result (faults self.old) (faults self.new) (halted self.old) (halted self.new) };
 

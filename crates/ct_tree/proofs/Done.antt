@@ -1,6 +1,6 @@
 -- What is known where a call was done, and where it was not.
 use Rattle.std.proofs.Common.{◌≡◌, ℕ, Bool, true, false, ◌&&◌, eqb, length, Option, None, sym, refl}
-use Rattle.std.specs.Prelude.{IsTrue}
+use Rattle.std.specs.Prelude.{IsTrue, ◌⊎◌}
 use Rattle.std.proofs.lemmas.Bool.{false≢true, true≢false, and_from, and_parts, eq-eqb, eqb-true}
 use Rattle.ct_latch.specs.declared.hold.Hold.{Hold}
 use Rattle.ct_definitions.specs.Pairs.{Pair}
@@ -8,13 +8,15 @@ use Rattle.ct_node.specs.Nodes.{NodeValue, is_within}
 use Rattle.ct_disk.specs.declared.turn.HaltCause.{HaltCause}
 use Rattle.ct_disk.specs.declared.turn.Turn.{Turn}
 use Rattle.ct_disk.specs.declared.turn.Turn.TheVariants.{Done, More, Busy, Refused}
-use Rattle.ct_node.specs.Worlds.{World, IsTidy}
+use Rattle.ct_node.specs.Worlds.{World, IsTidy, no_mark}
+use Rattle.ct_node.specs.declared.root.Mark.{Mark}
 use Rattle.ct_tree_laws.specs.declared.walk.Walk.{Walk}
 use Rattle.ct_tree_laws.specs.declared.walk.Stage.{Stage}
 use Rattle.ct_tree_laws.specs.declared.walk.Stage.TheVariants as stage
-use Rattle.ct_tree_laws.specs.Stands.{KeepsKeys, Stands}
-use Rattle.ct_node.specs.Turns.{OnDone, OnBusy, After, LatchedBy, CausedTurn}
-use Rattle.ct_tree.specs.Answers.{is_done, is_for, PutsKeys, IsPutting, GoesOn, answer_with, TakeGoesOn, TakesKeys, TakenKeys, TellsTaken, IsTaken, TellsFound, IsFound, IsTaking, IsFinding, IsSearching, IsSeeking}
+use Rattle.ct_tree_laws.specs.Stands.{KeepsKeys, Stands, Stepped, HasNone}
+use Rattle.ct_tree_laws.proofs.SearchTurns.{ended_none}
+use Rattle.ct_node.specs.Turns.{OnDone, OnBusy, After, LatchedBy, CausedTurn, Bears}
+use Rattle.ct_tree.specs.Answers.{is_done, is_for, PutsKeys, IsPutting, GoesOn, answer_with, TakeGoesOn, TakesKeys, TakenKeys, TellsTaken, IsTaken, TellsFound, IsFound, IsTaking, IsFinding, IsSearching, IsSeeking, BearsPut, BearsTake, BearsTaken}
 
 pub when_done : (turn : Turn (Unit {0})) (P : Unit {0} → Type 0) → is_done turn ≡ true → OnDone turn P → P tt
 when_done (Done answer) P done is = is
@@ -158,7 +160,7 @@ seeking_from above stage.Ended is other = is
 
 -- a search has no page that is written and reached by no link
 pub search_tidy : (walk : Walk) (above : Bool) (at : Stage) (w : World) → IsSearching above at → Stands walk at w → IsTrue w.founded → IsTidy walk.op w
-search_tidy walk above stage.Start w is stands founded = (stands founded).place
+search_tidy walk above stage.Start w is stands founded = (stands founded).place.0
 search_tidy walk above (stage.Down page) w is stands founded = (stands founded).place.0
 search_tidy walk above (stage.Leaf page) w is stands founded = (stands founded).place.0
 search_tidy walk above (stage.Held page) w is stands founded = absurd is
@@ -168,3 +170,47 @@ search_tidy walk above (stage.Cut page right) w is stands founded = absurd is
 search_tidy walk above (stage.Share page over) w is stands founded = (stands founded).place.0
 search_tidy walk above (stage.Shared page over) w is stands founded = (stands founded).place.0
 search_tidy walk above stage.Ended w is stands founded = absurd is
+
+-- an operation that is done has given all its latches back
+pub given_back : {T : Type 0} (walk : Walk) (turn : Turn (Unit {0})) (told : T) (to : Stage) (w now : World) → TakeGoesOn turn to → Stepped walk to w now → OnDone (answer_with turn told) (λ _. IsTrue w.founded → HasNone walk.op now)
+given_back walk (Done answer) told to w now goes stepped = λ founded. ended_none walk to w now stepped goes founded
+given_back walk More told to w now goes stepped = tt
+given_back walk (Busy op) told to w now goes stepped = tt
+given_back walk (Refused fault) told to w now goes stepped = tt
+
+pub put_given_back : (walk : Walk) (turn : Turn (Unit {0})) (to : Stage) (w now : World) → GoesOn turn to → Stepped walk to w now → OnDone turn (λ _. IsTrue w.founded → HasNone walk.op now)
+put_given_back walk (Done answer) to w now goes stepped = λ founded. ended_none walk to w now stepped goes founded
+put_given_back walk More to w now goes stepped = tt
+put_given_back walk (Busy op) to w now goes stepped = tt
+put_given_back walk (Refused fault) to w now goes stepped = tt
+
+-- the mark that the last edit bore, where it was done and where it was not
+pub bears_done : (turn : Turn (Unit {0})) (mark before now : Mark) → is_done turn ≡ true → Bears turn mark before now → now ≡ mark
+bears_done (Done answer) mark before now done is = is
+bears_done More mark before now done is = absurd (false≢true done)
+bears_done (Busy op) mark before now done is = absurd (false≢true done)
+bears_done (Refused fault) mark before now done is = absurd (false≢true done)
+
+pub bears_other : (turn : Turn (Unit {0})) (mark before now : Mark) → is_done turn ≡ false → Bears turn mark before now → now ≡ before
+bears_other (Done answer) mark before now other is = absurd (true≢false other)
+bears_other More mark before now other is = is
+bears_other (Busy op) mark before now other is = is
+bears_other (Refused fault) mark before now other is = is
+
+pub bears_put_going : (walk : Walk) (mark : Mark) (turn : Turn (Unit {0})) (w : World) (before now : Mark) → is_done turn ≡ false → (now ≡ before) ⊎ (now ≡ no_mark) → BearsPut walk mark turn w before now
+bears_put_going walk mark (Done answer) w before now going is = absurd (true≢false going)
+bears_put_going walk mark More w before now going is = is
+bears_put_going walk mark (Busy op) w before now going is = is
+bears_put_going walk mark (Refused fault) w before now going is = is
+
+pub bears_take_going : (mark : Mark) (turn : Turn (Unit {0})) (found : Bool) (before now : Mark) → is_done turn ≡ false → now ≡ before → BearsTake mark turn found before now
+bears_take_going mark (Done answer) found before now going is = absurd (true≢false going)
+bears_take_going mark More found before now going is = is
+bears_take_going mark (Busy op) found before now going is = is
+bears_take_going mark (Refused fault) found before now going is = is
+
+pub bears_with : (mark : Mark) (turn : Turn (Unit {0})) (found : Bool) (before now : Mark) → BearsTake mark turn found before now → BearsTaken mark (answer_with turn found) before now
+bears_with mark (Done answer) found before now is = is
+bears_with mark More found before now is = is
+bears_with mark (Busy op) found before now is = is
+bears_with mark (Refused fault) found before now is = is

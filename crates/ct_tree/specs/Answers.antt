@@ -1,5 +1,5 @@
 -- What a turn's answer says of the pairs, and of who is in the way.
-use Rattle.std.specs.Prelude.{◌≡◌, ℕ, Bool, true, false, List, Option, Some, find, ◌⊎◌, ◌&&◌, ◌==◌, not, length, IsTrue}
+use Rattle.std.specs.Prelude.{◌≡◌, ℕ, Bool, true, false, List, Option, Some, find, ◌⊎◌, ◌&&◌, ◌==◌, not, length, IsTrue, if◌then◌else◌}
 use Rattle.ct_disk.specs.declared.turn.Turn.{Turn}
 use Rattle.ct_disk.specs.declared.turn.Turn.TheVariants.{Done, More, Busy, Refused}
 use Rattle.ct_latch.specs.declared.hold.Hold.{Hold}
@@ -9,7 +9,8 @@ use Rattle.ct_node.specs.declared.target.Target.{Target}
 use Rattle.ct_node.specs.declared.target.Target.TheVariants.{First, Last, At, Before}
 use Rattle.ct_node.specs.Nodes.{NodeValue, is_within, has_pair}
 use Rattle.ct_node.specs.Places.{is_ahead}
-use Rattle.ct_node.specs.Worlds.{World, has_latch}
+use Rattle.ct_node.specs.declared.root.Mark.{Mark}
+use Rattle.ct_node.specs.Worlds.{World, no_mark}
 use Rattle.ct_tree_laws.specs.declared.walk.Walk.{Walk}
 use Rattle.ct_tree_laws.specs.declared.walk.Stage.{Stage}
 use Rattle.ct_tree_laws.specs.declared.walk.Stage.TheVariants as stage
@@ -89,10 +90,6 @@ TellsFound walk above (Done answer) found w = IsTrue w.founded → (keys : List 
 TellsFound walk above More found w = Unit {0}
 TellsFound walk above (Busy op) found w = Unit {0}
 TellsFound walk above (Refused fault) found w = Unit {0}
-
--- an operation has no latch
-abbrev pub HasNone : ℕ → World → Type 0
-HasNone op w = (page : ℕ) → has_latch op page w ≡ false
 
 -- the stages of a put or take that has not ended
 abbrev pub IsPutting : Stage → Type 0
@@ -199,3 +196,23 @@ IsSeeking above (stage.Cut page right) = ⊥
 IsSeeking above (stage.Share page over) = over ≡ above
 IsSeeking above (stage.Shared page over) = ⊥
 IsSeeking above stage.Ended = ⊥
+
+-- the edit that puts a pair bears the put's mark: where the pair is there already no edit is made; no other edit of a put bears a mark
+abbrev pub BearsPut : Walk → Mark → Turn (Unit {0}) → World → Mark → Mark → Type 0
+BearsPut walk mark (Done answer) w before now = IsTrue w.founded → (keys : List Pair) → Chain w walk.at keys → now ≡ (if has_at walk.target keys then before else mark)
+BearsPut walk mark More w before now = (now ≡ before) ⊎ (now ≡ no_mark)
+BearsPut walk mark (Busy op) w before now = (now ≡ before) ⊎ (now ≡ no_mark)
+BearsPut walk mark (Refused fault) w before now = (now ≡ before) ⊎ (now ≡ no_mark)
+
+-- the edit that takes a pair bears the take's mark, and a take makes no other
+abbrev pub BearsTake : Mark → Turn (Unit {0}) → Bool → Mark → Mark → Type 0
+BearsTake mark (Done answer) found before now = now ≡ (if found then mark else before)
+BearsTake mark More found before now = now ≡ before
+BearsTake mark (Busy op) found before now = now ≡ before
+BearsTake mark (Refused fault) found before now = now ≡ before
+
+abbrev pub BearsTaken : Mark → Turn Bool → Mark → Mark → Type 0
+BearsTaken mark (Done found) before now = now ≡ (if found then mark else before)
+BearsTaken mark More before now = now ≡ before
+BearsTaken mark (Busy op) before now = now ≡ before
+BearsTaken mark (Refused fault) before now = now ≡ before

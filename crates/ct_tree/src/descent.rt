@@ -30,6 +30,7 @@ pub(crate) fn start<N: Nodes>(walk: &Walk, nodes: &mut N) -> (Stage, Turn<()>)
     ensures putting { IsPutting result.0 }
     ensures taking { IsTaking result.0 }
     ensures searching { (above : _) → IsSearching above result.0 }
+    ensures bears { N.marked nodes.new ≡ N.marked nodes.old }
     ensures busy { OnBusy result.1 (IsInTheWay (N.flushes nodes.old) (N.world nodes.old) walk.now.op) }
     ensures cause { CausedTurn result.1 (N.faults nodes.old) (N.faults nodes.new) (N.halted nodes.old) (N.halted nodes.new) }
 {
@@ -50,6 +51,7 @@ pub(crate) fn descend<N: Nodes>(walk: &Walk, nodes: &mut N, page: u64) -> (Stage
     ensures putting { IsPutting result.0 }
     ensures taking { IsTaking result.0 }
     ensures searching { (above : _) → IsSearching above result.0 }
+    ensures bears { N.marked nodes.new ≡ N.marked nodes.old }
     ensures busy { OnBusy result.1 (IsInTheWay (N.flushes nodes.old) (N.world nodes.old) walk.now.op) }
     ensures cause { CausedTurn result.1 (N.faults nodes.old) (N.faults nodes.new) (N.halted nodes.old) (N.halted nodes.new) }
 {
@@ -79,6 +81,7 @@ pub(crate) fn own_leaf<N: Nodes>(walk: &Walk, nodes: &mut N, page: u64) -> (Stag
     ensures going { is_done result.1 ≡ false }
     ensures putting { IsPutting result.0 }
     ensures taking { IsTaking result.0 }
+    ensures bears { N.marked nodes.new ≡ N.marked nodes.old }
     ensures busy { OnBusy result.1 (IsInTheWay (N.flushes nodes.old) (N.world nodes.old) walk.now.op) }
     ensures cause { CausedTurn result.1 (N.faults nodes.old) (N.faults nodes.new) (N.halted nodes.old) (N.halted nodes.new) }
 {
@@ -104,6 +107,7 @@ pub(crate) fn find_leaf<N: Nodes>(walk: &Walk, stage: Stage, nodes: &mut N) -> (
     ensures keys { KeepsKeys (N.world nodes.old) (N.world nodes.new) }
     ensures going { is_done result.1 ≡ false }
     ensures taking { IsTaking result.0 }
+    ensures bears { N.marked nodes.new ≡ N.marked nodes.old }
     ensures busy { OnBusy result.1 (IsInTheWay (N.flushes nodes.old) (N.world nodes.old) walk.now.op) }
     ensures cause { CausedTurn result.1 (N.faults nodes.old) (N.faults nodes.new) (N.halted nodes.old) (N.halted nodes.new) }
 {

@@ -3,6 +3,7 @@
 
 mod begin;
 mod descent;
+mod laws;
 mod memory;
 mod program;
 mod put;
@@ -15,6 +16,7 @@ mod tests;
 
 pub use begin::begins_in_memory;
 pub use ct_tree_laws::{Stage, Walk};
+pub use laws::half_split_is_not_reached;
 pub use memory::run_in_memory;
 pub use program::{Answer, Happened, Program, turn};
 pub use put::Put;

@@ -3,9 +3,9 @@
 ghost use Rattle.std.specs.Prelude.{◌≡◌, ◌≤◌, ◌==◌, ◌&&◌, IsTrue, false, true, length};
 ghost use Rattle.ct_node.specs.Places.{is_past};
 ghost use Rattle.ct_node.specs.Worlds.{Holds, page_at};
-ghost use Rattle.ct_node.specs.Turns.{OnBusy, CausedTurn};
-ghost use Rattle.ct_tree_laws.specs.Stands.{Stands, Stepped};
-ghost use Rattle.ct_tree.specs.Answers.{IsPair, PutsKeys, IsInTheWay, IsPutting, GoesOn};
+ghost use Rattle.ct_node.specs.Turns.{OnDone, OnBusy, CausedTurn};
+ghost use Rattle.ct_tree_laws.specs.Stands.{Stands, Stepped, HasNone};
+ghost use Rattle.ct_tree.specs.Answers.{IsPair, PutsKeys, IsInTheWay, IsPutting, GoesOn, BearsPut};
 
 use crate::descent::{descend, is_done, is_for, own_leaf, start};
 use crate::split::{allocate, cut_left, write_right};
@@ -48,6 +48,8 @@ impl Put {
         ensures stepped { Stepped self.old.walk self.new.stage (N.world nodes.old) (N.world nodes.new) }
         ensures keys { PutsKeys self.old.walk result (N.world nodes.old) (N.world nodes.new) }
         ensures goes { GoesOn result self.new.stage }
+        ensures given_back { OnDone result (λ _. IsTrue (N.world nodes.old).founded → HasNone self.old.walk.op (N.world nodes.new)) }
+        ensures bears { BearsPut self.old.walk self.old.mark result (N.world nodes.old) (N.marked nodes.old) (N.marked nodes.new) }
         ensures busy { OnBusy result (IsInTheWay (N.flushes nodes.old) (N.world nodes.old) self.old.walk.op) }
         ensures cause { CausedTurn result (N.faults nodes.old) (N.faults nodes.new) (N.halted nodes.old) (N.halted nodes.new) }
     {
@@ -66,6 +68,7 @@ fn put_step<N: Nodes>(walk: &Walk, mark: Mark, stage: Stage, nodes: &mut N) -> (
     ensures stepped { Stepped walk.now result.0 (N.world nodes.old) (N.world nodes.new) }
     ensures keys { PutsKeys walk.now result.1 (N.world nodes.old) (N.world nodes.new) }
     ensures goes { GoesOn result.1 result.0 }
+    ensures bears { BearsPut walk.now mark result.1 (N.world nodes.old) (N.marked nodes.old) (N.marked nodes.new) }
     ensures busy { OnBusy result.1 (IsInTheWay (N.flushes nodes.old) (N.world nodes.old) walk.now.op) }
     ensures cause { CausedTurn result.1 (N.faults nodes.old) (N.faults nodes.new) (N.halted nodes.old) (N.halted nodes.new) }
 {
@@ -97,6 +100,7 @@ pub(crate) fn put_held<N: Nodes>(
     ensures stepped { Stepped walk.now result.0 (N.world nodes.old) (N.world nodes.new) }
     ensures keys { PutsKeys walk.now result.1 (N.world nodes.old) (N.world nodes.new) }
     ensures goes { GoesOn result.1 result.0 }
+    ensures bears { BearsPut walk.now mark result.1 (N.world nodes.old) (N.marked nodes.old) (N.marked nodes.new) }
     ensures busy { OnBusy result.1 (IsInTheWay (N.flushes nodes.old) (N.world nodes.old) walk.now.op) }
     ensures cause { CausedTurn result.1 (N.faults nodes.old) (N.faults nodes.new) (N.halted nodes.old) (N.halted nodes.new) }
 {
@@ -132,6 +136,7 @@ fn put_here<N: Nodes>(
     ensures stepped { Stepped walk.now result.0 (N.world nodes.old) (N.world nodes.new) }
     ensures keys { PutsKeys walk.now result.1 (N.world nodes.old) (N.world nodes.new) }
     ensures goes { GoesOn result.1 result.0 }
+    ensures bears { BearsPut walk.now mark result.1 (N.world nodes.old) (N.marked nodes.old) (N.marked nodes.new) }
     ensures busy { OnBusy result.1 (IsInTheWay (N.flushes nodes.old) (N.world nodes.old) walk.now.op) }
     ensures cause { CausedTurn result.1 (N.faults nodes.old) (N.faults nodes.new) (N.halted nodes.old) (N.halted nodes.new) }
 {

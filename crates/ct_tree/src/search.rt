@@ -2,8 +2,8 @@
 
 ghost use Rattle.std.specs.Prelude.{◌≡◌, ◌≤◌, ◌<◌, IsTrue, false, true, length};
 ghost use Rattle.ct_node.specs.Turns.{OnBusy, CausedTurn};
-ghost use Rattle.ct_tree_laws.specs.Stands.{Stands, Stepped, KeepsKeys};
-ghost use Rattle.ct_tree.specs.Answers.{is_done, TellsFound, IsFound, HasNone, IsInTheWay, IsSearching, IsSeeking};
+ghost use Rattle.ct_tree_laws.specs.Stands.{Stands, Stepped, KeepsKeys, HasNone};
+ghost use Rattle.ct_tree.specs.Answers.{is_done, TellsFound, IsFound, IsInTheWay, IsSearching, IsSeeking};
 
 use crate::descent::{answer_with, descend, is_done, start};
 use ct_disk::Turn;
@@ -48,6 +48,7 @@ impl Search {
         ensures keys { KeepsKeys (N.world nodes.old) (N.world nodes.new) }
         ensures found { IsFound self.old.walk self.old.above result (N.world nodes.old) }
         ensures open { IsSearching self.new.above self.new.stage }
+        ensures bears { N.marked nodes.new ≡ N.marked nodes.old }
         ensures busy { OnBusy result (IsInTheWay (N.flushes nodes.old) (N.world nodes.old) self.old.walk.op) }
         ensures cause { CausedTurn result (N.faults nodes.old) (N.faults nodes.new) (N.halted nodes.old) (N.halted nodes.new) }
     {
@@ -66,6 +67,7 @@ impl Search {
         ensures stepped { Stepped self.old.walk self.new.stage (N.world nodes.old) (N.world nodes.new) }
         ensures keys { KeepsKeys (N.world nodes.old) (N.world nodes.new) }
         ensures given_back { HasNone self.old.walk.op (N.world nodes.new) }
+        ensures bears { N.marked nodes.new ≡ N.marked nodes.old }
         ensures faults { N.faults nodes.new ≡ N.faults nodes.old }
     {
         nodes.free_all(self.walk.op);
@@ -87,6 +89,7 @@ fn search_step<N: Nodes>(
     ensures keys { KeepsKeys (N.world nodes.old) (N.world nodes.new) }
     ensures found { TellsFound walk.now above result.1 result.2 (N.world nodes.old) }
     ensures searching { IsSearching above result.0 }
+    ensures bears { N.marked nodes.new ≡ N.marked nodes.old }
     ensures busy { OnBusy result.1 (IsInTheWay (N.flushes nodes.old) (N.world nodes.old) walk.now.op) }
     ensures cause { CausedTurn result.1 (N.faults nodes.old) (N.faults nodes.new) (N.halted nodes.old) (N.halted nodes.new) }
 {
@@ -105,6 +108,7 @@ fn find_shared<N: Nodes>(walk: &Walk, above: bool, stage: Stage, nodes: &mut N) 
     ensures keys { KeepsKeys (N.world nodes.old) (N.world nodes.new) }
     ensures going { is_done result.1 ≡ false }
     ensures searching { IsSearching above result.0 }
+    ensures bears { N.marked nodes.new ≡ N.marked nodes.old }
     ensures busy { OnBusy result.1 (IsInTheWay (N.flushes nodes.old) (N.world nodes.old) walk.now.op) }
     ensures cause { CausedTurn result.1 (N.faults nodes.old) (N.faults nodes.new) (N.halted nodes.old) (N.halted nodes.new) }
 {
@@ -134,6 +138,7 @@ pub(crate) fn share_leaf<N: Nodes>(
     ensures keys { KeepsKeys (N.world nodes.old) (N.world nodes.new) }
     ensures going { is_done result.1 ≡ false }
     ensures searching { IsSearching above result.0 }
+    ensures bears { N.marked nodes.new ≡ N.marked nodes.old }
     ensures busy { OnBusy result.1 (IsInTheWay (N.flushes nodes.old) (N.world nodes.old) walk.now.op) }
     ensures given_back { OnBusy result.1 (λ _. HasNone walk.now.op (N.world nodes.new)) }
     ensures cause { CausedTurn result.1 (N.faults nodes.old) (N.faults nodes.new) (N.halted nodes.old) (N.halted nodes.new) }
@@ -161,6 +166,7 @@ pub(crate) fn share_next<N: Nodes>(
     ensures keys { KeepsKeys (N.world nodes.old) (N.world nodes.new) }
     ensures going { is_done result.1 ≡ false }
     ensures searching { IsSearching above result.0 }
+    ensures bears { N.marked nodes.new ≡ N.marked nodes.old }
     ensures busy { OnBusy result.1 (IsInTheWay (N.flushes nodes.old) (N.world nodes.old) walk.now.op) }
     ensures given_back { OnBusy result.1 (λ _. HasNone walk.now.op (N.world nodes.new)) }
     ensures cause { CausedTurn result.1 (N.faults nodes.old) (N.faults nodes.new) (N.halted nodes.old) (N.halted nodes.new) }
@@ -190,6 +196,7 @@ pub(crate) fn look_shared<N: Nodes>(
     ensures keys { KeepsKeys (N.world nodes.old) (N.world nodes.new) }
     ensures found { TellsFound walk.now above result.1 result.2 (N.world nodes.old) }
     ensures searching { IsSearching above result.0 }
+    ensures bears { N.marked nodes.new ≡ N.marked nodes.old }
     ensures busy { OnBusy result.1 (IsInTheWay (N.flushes nodes.old) (N.world nodes.old) walk.now.op) }
     ensures cause { CausedTurn result.1 (N.faults nodes.old) (N.faults nodes.new) (N.halted nodes.old) (N.halted nodes.new) }
 {
@@ -199,7 +206,7 @@ pub(crate) fn look_shared<N: Nodes>(
         return (Stage::Shared { page, above }, seen, None);
     }
     if let Place::Right(right) = node.next_place(&walk.target) {
-        nodes.free(walk.op, page);
+        nodes.free_all(walk.op);
         return (Stage::Down { page: right }, Turn::More, None);
     }
     let place = node.count_ahead(&walk.target, above);

@@ -1,7 +1,8 @@
 //! The split of a full leaf in three moves: a page is allocated, the right half written into it,
 //! and the left node cut.
 
-ghost use Rattle.std.specs.Prelude.{◌≡◌, IsTrue, false, true};
+ghost use Rattle.std.specs.Prelude.{◌≡◌, ◌⊎◌, IsTrue, false, true};
+ghost use Rattle.ct_node.specs.Worlds.{no_mark};
 ghost use Rattle.ct_node.specs.Turns.{OnBusy, CausedTurn};
 ghost use Rattle.ct_tree_laws.specs.Stands.{Stands, Stepped, KeepsKeys};
 ghost use Rattle.ct_tree.specs.Answers.{is_done, IsInTheWay, IsPutting};
@@ -18,6 +19,7 @@ pub(crate) fn allocate<N: Nodes>(walk: &Walk, nodes: &mut N, page: u64) -> (Stag
     ensures keys { KeepsKeys (N.world nodes.old) (N.world nodes.new) }
     ensures going { is_done result.1 ≡ false }
     ensures putting { IsPutting result.0 }
+    ensures bears { N.marked nodes.new ≡ N.marked nodes.old }
     ensures busy { OnBusy result.1 (IsInTheWay (N.flushes nodes.old) (N.world nodes.old) walk.now.op) }
     ensures cause { CausedTurn result.1 (N.faults nodes.old) (N.faults nodes.new) (N.halted nodes.old) (N.halted nodes.new) }
 {
@@ -41,6 +43,7 @@ pub(crate) fn write_right<N: Nodes>(
     ensures keys { KeepsKeys (N.world nodes.old) (N.world nodes.new) }
     ensures going { is_done result.1 ≡ false }
     ensures putting { IsPutting result.0 }
+    ensures bears { (N.marked nodes.new ≡ N.marked nodes.old) ⊎ (N.marked nodes.new ≡ no_mark) }
     ensures busy { OnBusy result.1 (IsInTheWay (N.flushes nodes.old) (N.world nodes.old) walk.now.op) }
     ensures cause { CausedTurn result.1 (N.faults nodes.old) (N.faults nodes.new) (N.halted nodes.old) (N.halted nodes.new) }
 {
@@ -73,6 +76,7 @@ pub(crate) fn cut_left<N: Nodes>(
     ensures keys { KeepsKeys (N.world nodes.old) (N.world nodes.new) }
     ensures going { is_done result.1 ≡ false }
     ensures putting { IsPutting result.0 }
+    ensures bears { (N.marked nodes.new ≡ N.marked nodes.old) ⊎ (N.marked nodes.new ≡ no_mark) }
     ensures busy { OnBusy result.1 (IsInTheWay (N.flushes nodes.old) (N.world nodes.old) walk.now.op) }
     ensures cause { CausedTurn result.1 (N.faults nodes.old) (N.faults nodes.new) (N.halted nodes.old) (N.halted nodes.new) }
 {

@@ -3,9 +3,9 @@
 ghost use Rattle.std.specs.Prelude.{◌≡◌, ◌≤◌, ◌==◌, ◌&&◌, IsTrue, false, true, length};
 ghost use Rattle.ct_node.specs.Places.{is_past};
 ghost use Rattle.ct_node.specs.Worlds.{Holds, page_at};
-ghost use Rattle.ct_node.specs.Turns.{OnBusy, CausedTurn};
-ghost use Rattle.ct_tree_laws.specs.Stands.{Stands, Stepped};
-ghost use Rattle.ct_tree.specs.Answers.{IsPair, TakesKeys, TellsTaken, TakenKeys, IsTaken, IsInTheWay, IsTaking, TakeGoesOn};
+ghost use Rattle.ct_node.specs.Turns.{OnDone, OnBusy, CausedTurn};
+ghost use Rattle.ct_tree_laws.specs.Stands.{Stands, Stepped, HasNone};
+ghost use Rattle.ct_tree.specs.Answers.{IsPair, TakesKeys, TellsTaken, TakenKeys, IsTaken, IsInTheWay, IsTaking, TakeGoesOn, BearsTake, BearsTaken};
 
 use crate::descent::{answer_with, find_leaf, is_done, is_for};
 use ct_disk::Turn;
@@ -49,6 +49,8 @@ impl Take {
         ensures keys { TakenKeys self.old.walk result (N.world nodes.old) (N.world nodes.new) }
         ensures found { IsTaken self.old.walk result (N.world nodes.old) }
         ensures goes { TakeGoesOn result self.new.stage }
+        ensures given_back { OnDone result (λ _. IsTrue (N.world nodes.old).founded → HasNone self.old.walk.op (N.world nodes.new)) }
+        ensures bears { BearsTaken self.old.mark result (N.marked nodes.old) (N.marked nodes.new) }
         ensures busy { OnBusy result (IsInTheWay (N.flushes nodes.old) (N.world nodes.old) self.old.walk.op) }
         ensures cause { CausedTurn result (N.faults nodes.old) (N.faults nodes.new) (N.halted nodes.old) (N.halted nodes.new) }
     {
@@ -73,6 +75,7 @@ fn take_step<N: Nodes>(
     ensures keys { TakesKeys walk.now result.1 (N.world nodes.old) (N.world nodes.new) }
     ensures found { TellsTaken walk.now result.1 result.2 (N.world nodes.old) }
     ensures goes { TakeGoesOn result.1 result.0 }
+    ensures bears { BearsTake mark result.1 result.2 (N.marked nodes.old) (N.marked nodes.new) }
     ensures busy { OnBusy result.1 (IsInTheWay (N.flushes nodes.old) (N.world nodes.old) walk.now.op) }
     ensures cause { CausedTurn result.1 (N.faults nodes.old) (N.faults nodes.new) (N.halted nodes.old) (N.halted nodes.new) }
 {
@@ -98,6 +101,7 @@ pub(crate) fn take_held<N: Nodes>(
     ensures keys { TakesKeys walk.now result.1 (N.world nodes.old) (N.world nodes.new) }
     ensures found { TellsTaken walk.now result.1 result.2 (N.world nodes.old) }
     ensures goes { TakeGoesOn result.1 result.0 }
+    ensures bears { BearsTake mark result.1 result.2 (N.marked nodes.old) (N.marked nodes.new) }
     ensures busy { OnBusy result.1 (IsInTheWay (N.flushes nodes.old) (N.world nodes.old) walk.now.op) }
     ensures cause { CausedTurn result.1 (N.faults nodes.old) (N.faults nodes.new) (N.halted nodes.old) (N.halted nodes.new) }
 {
@@ -134,6 +138,7 @@ fn take_here<N: Nodes>(
     ensures keys { TakesKeys walk.now result.1 (N.world nodes.old) (N.world nodes.new) }
     ensures found { TellsTaken walk.now result.1 result.2 (N.world nodes.old) }
     ensures goes { TakeGoesOn result.1 result.0 }
+    ensures bears { BearsTake mark result.1 result.2 (N.marked nodes.old) (N.marked nodes.new) }
     ensures busy { OnBusy result.1 (IsInTheWay (N.flushes nodes.old) (N.world nodes.old) walk.now.op) }
     ensures cause { CausedTurn result.1 (N.faults nodes.old) (N.faults nodes.new) (N.halted nodes.old) (N.halted nodes.new) }
 {

@@ -15,3 +15,4 @@ pub mod SplitTurns
 pub mod SearchTurns
 pub mod Finds
 pub mod NewTree
+pub mod HalfSplits

@@ -8,7 +8,7 @@ use Rattle.ct_tree_laws.specs.declared.walk.Walk.{Walk}
 use Rattle.ct_tree_laws.specs.declared.walk.Stage.{Stage}
 use Rattle.ct_tree_laws.specs.declared.walk.Stage.TheVariants.{Start, Down, Leaf, Held, Full, Split, Cut, Share, Shared, Ended}
 use Rattle.ct_tree_laws.specs.Trees.{Tree, IsAt, IsNear}
-use Rattle.ct_tree_laws.specs.Stands.{IsNearLeaf, IsFull, IsTidyBut, IsReachedBySearch, IsAtStage, StandsIn, Stands, Keeps}
+use Rattle.ct_tree_laws.specs.Stands.{HasNone, HasOnly, IsNearLeaf, IsFull, IsTidyBut, IsReachedBySearch, IsAtStage, StandsIn, Stands, Keeps}
 use Rattle.ct_tree_laws.proofs.Taking.{has_latch_from_own}
 use Rattle.ct_tree_laws.proofs.Kept.{IsReached}
 use Rattle.ct_tree_laws.proofs.Steps.{IsStep}
@@ -34,17 +34,23 @@ module _ (op : ℕ) (w now : World) (step : IsStep op w now) (other : ℕ) (diff
   reached : (page : ℕ) (above : Bool) → IsReachedBySearch w t other above target page → IsReachedBySearch now t other above target page
   reached page above is = (is.0, step.at t true is.0 page is.1, step.passed other t above target is.0 differ is.2)
 
+  none : HasNone other w → HasNone other now
+  none is page = step.latch other page differ ∙ is page
+
+  only : (page : ℕ) → HasOnly other page w → HasOnly other page now
+  only page is q latched = is q (sym (step.latch other q differ) ∙ latched)
+
   stage_kept : (stage : Stage) → IsAtStage w t other target stage → IsAtStage now t other target stage
-  stage_kept Start is = tidy is
-  stage_kept (Down page) is = (tidy is.0, near page is.1)
-  stage_kept (Leaf page) is = (tidy is.0, near_leaf page is.1)
-  stage_kept (Held page) is = (tidy is.0, near_leaf page is.1, step.own other page differ ∙ is.2)
-  stage_kept (Full page) is = (tidy is.0, (is.1.0, full page is.1.0 is.1.1))
-  stage_kept (Split page right) is = (tidy is.0, (is.1.0, full page is.1.0 is.1.1), step.fresh other right differ ∙ is.2)
-  stage_kept (Cut page right) is = (tidy_but right is.0, (is.1.0, full page is.1.0 is.1.1, step.blank other right differ is.2 ∙ is.1.2), step.fresh other right differ ∙ is.2)
+  stage_kept Start is = (tidy is.0, none is.1)
+  stage_kept (Down page) is = (tidy is.0, near page is.1, none is.2)
+  stage_kept (Leaf page) is = (tidy is.0, near_leaf page is.1, none is.2)
+  stage_kept (Held page) is = (tidy is.0, near_leaf page is.1, step.own other page differ ∙ is.2, only page is.3)
+  stage_kept (Full page) is = (tidy is.0, (is.1.0, full page is.1.0 is.1.1), only page is.2)
+  stage_kept (Split page right) is = (tidy is.0, (is.1.0, full page is.1.0 is.1.1), step.fresh other right differ ∙ is.2, only page is.3)
+  stage_kept (Cut page right) is = (tidy_but right is.0, (is.1.0, full page is.1.0 is.1.1, step.blank other right differ is.2 ∙ is.1.2), step.fresh other right differ ∙ is.2, only page is.3)
   stage_kept (Share page above) is = (tidy is.0, reached page above is.1)
   stage_kept (Shared page above) is = (tidy is.0, reached page above is.1, step.latch other page differ ∙ is.2)
-  stage_kept Ended is = tt
+  stage_kept Ended is = none is
 
 -- a step of an operation keeps what all others remember
 pub Keeps-step : (op : ℕ) (w now : World) → now.founded ≡ w.founded → (IsTrue w.founded → IsStep op w now) → Keeps op w now

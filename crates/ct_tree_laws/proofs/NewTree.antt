@@ -78,7 +78,7 @@ module _ (key_len : ℕ) (some : 1 ≤ key_len) (short : key_len ≤ 128) where
     is = subst (λ root. IsTree (new_world key_len) root (record { file = 0; index = 0; key_len = key_len; first = 1 }) (1 ∷ [])) (sym at) new_tree;
     apart = new_apart;
     key = key;
-    place = λ page mine. absurd (false≢true mine);
+    place = (λ page mine. absurd (false≢true mine), λ page. refl);
   }
 
   pub new_chain : Chain (new_world key_len) (record { page = 0; index = 0 }) []

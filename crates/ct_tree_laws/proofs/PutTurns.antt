@@ -1,7 +1,7 @@
 -- The turns of a put: each ends at a stage that stands, keeps what others remember, and changes the pairs by its own one at most.
 use Rattle.std.proofs.Common.{◌≡◌, ℕ, ◌+◌, ◌<◌, ◌≤◌, Bool, true, false, not, cond, List, [], ◌∷◌, length, refl, sym, ap, ◌∙◌, arith, subst, inl, inr, ⊎_elim, Option, Some, None, filter}
 use Rattle.std.specs.Prelude.{IsTrue, ◌⊎◌, find, ◌==◌, if◌then◌else◌}
-use Rattle.std.proofs.lemmas.Bool.{cases_Bool, false≢true, true≢false, cond-true, cond-false, or_parts}
+use Rattle.std.proofs.lemmas.Bool.{cases_Bool, false≢true, true≢false, cond-true, cond-false, or_parts, false_from_ne_true}
 use Rattle.std.proofs.lemmas.List.{get_or_past}
 use Rattle.ct_latch.specs.Latches.{is_of, bars, with_hold, with_share}
 use Rattle.std.specs.Ordering.{is_eq}
@@ -18,9 +18,10 @@ use Rattle.ct_tree_laws.specs.declared.walk.Walk.{Walk}
 use Rattle.ct_tree_laws.specs.declared.walk.Stage.{Stage}
 use Rattle.ct_tree_laws.specs.declared.walk.Stage.TheVariants as stage
 use Rattle.ct_tree_laws.specs.Trees.{Tree, IsOf, IsAt, IsTree, IsApart, IsInRole, IsLowFor, Chain, joined}
-use Rattle.ct_tree_laws.specs.Stands.{IsNearLeaf, IsFull, IsTidyBut, IsAtStage, StandsIn, Stands, Keeps, Stepped, KeepsKeys, ChangesKeys, is_same_root, added, without}
-use Rattle.ct_tree_laws.proofs.Taking.{owned, ChangesLatches, ChangesLatches-own, ChangesLatches-free, has_own-with_hold_new}
+use Rattle.ct_tree_laws.specs.Stands.{HasNone, HasOnly, IsNearLeaf, IsFull, IsTidyBut, IsAtStage, StandsIn, Stands, Keeps, Stepped, KeepsKeys, ChangesKeys, is_same_root, added, without}
+use Rattle.ct_tree_laws.proofs.Taking.{owned, is_of_parts, ChangesLatches, ChangesLatches-own, ChangesLatches-free, has_own-with_hold_new}
 use Rattle.ct_tree_laws.proofs.Pages.{page_within, page_at-edited, page_at-edited_other, page_at-with_fresh, stays_linked, is_fresh_from, has_fresh_before, has_fresh-edited_mine, is_linked-edited, is_fresh-with_fresh, has_fresh-with_fresh, has_fresh_new}
+use Rattle.ct_tree_laws.proofs.Holders.{list_any_gone, list_any_filtered, list_any-with_hold_old}
 use Rattle.ct_tree_laws.proofs.Chains.{one_node}
 use Rattle.ct_tree_laws.proofs.Steps.{IsStep, IsStep-none, IsStep-next, IsStep-latches, IsStep-with_fresh, IsStep-from_links}
 use Rattle.ct_tree_laws.proofs.Edits.{LeavesLinks-puts, LeavesLinks-takes, LeavesLinks-right, not_theirs_held}
@@ -53,11 +54,20 @@ free_step page op w apart = IsStep-latches op w (freed page op w) apart (Changes
 pub free_keys : (page op : ℕ) (w : World) → (IsTrue w.founded → IsApart w) → KeepsKeys w (freed page op w)
 free_keys page op w apart = KeepsKeys-latches op w (freed page op w) apart (ChangesLatches-free page op w)
 
+-- what is given back is all that the operation had
+pub freed_none : (page op : ℕ) (w : World) → HasOnly op page w → HasNone op (freed page op w)
+freed_none page op w only q = false_from_ne_true (has_latch op q (freed page op w)) (λ latched.
+    let one : q ≡ page = only q (list_any_filtered (is_of q op) (λ hold. not (is_of page op hold)) w.holds latched) in
+    false≢true (sym (list_any_gone (is_of page op) (λ hold. not (is_of page op hold)) w.holds (λ hold of. ap not of)) ∙ subst (λ p. has_latch op p (freed page op w) ≡ true) one latched))
+
+only_owned : (page op : ℕ) (w : World) → HasNone op w → HasOnly op page (with_holds (with_hold (owned page op) w.holds) w)
+only_owned page op w none q latched = ⊎_elim (λ new. sym (is_of_parts q op (owned page op) new).0) (λ old. absurd (false≢true (sym (none q) ∙ old))) (list_any-with_hold_old (is_of q op) (owned page op) w.holds latched)
+
 -- the leaf becomes the operation's own
 pub own_stepped : (walk : Walk) (page : ℕ) (w now : World) → Stands walk (stage.Leaf page) w → find (bars page walk.op true) w.holds ≡ None → now ≡ with_holds (with_hold (owned page walk.op) w.holds) w → Stepped walk (stage.Held page) w now
 own_stepped walk page w now stands free is = subst (Stepped walk (stage.Held page) w) (sym is)
     (stepped_by walk (stage.Leaf page) (stage.Held page) w (with_holds (with_hold (owned page walk.op) w.holds) w) refl stands step
-    (λ here. (here.place.0, (here.place.1.0, (step here).at here.tree true here.place.1.0 page here.place.1.1, here.place.1.2), has_own-with_hold_new page walk.op w)))
+    (λ here. (here.place.0, (here.place.1.0, (step here).at here.tree true here.place.1.0 page here.place.1.1, here.place.1.2), has_own-with_hold_new page walk.op w, only_owned page walk.op w here.place.2)))
   where
     step : StandsIn walk (stage.Leaf page) w → IsStep walk.op w (with_holds (with_hold (owned page walk.op) w.holds) w)
     step here = IsStep-latches walk.op w (with_holds (with_hold (owned page walk.op) w.holds) w) here.apart (ChangesLatches-own page walk.op w free)
@@ -80,7 +90,7 @@ held_right walk page node q w mid now stands is same gives on = subst (Stepped w
     (stepped_by walk (stage.Held page) (stage.Down q) w (freed page walk.op w) refl stands (λ here. free_step page walk.op w here.apart)
     (λ here.
     let near = near_right w here.tree walk.target page node q (held_seen walk page node w is here).0 (sym on) in
-    (here.place.0, (near.0, near.1, (free_step page walk.op w here.apart).at here.tree near.0 near.1 q near.2, near.3))))
+    (here.place.0, (near.0, near.1, (free_step page walk.op w here.apart).at here.tree near.0 near.1 q near.2, near.3), freed_none page walk.op w here.place.3)))
 
 pub freed_keys : (walk : Walk) (from : Stage) (page : ℕ) (w mid now : World) → Stands walk from w → mid ≡ w → now ≡ freed page walk.op mid → KeepsKeys w now
 freed_keys walk from page w mid now stands same gives = subst (KeepsKeys w) (sym (gives ∙ ap (freed page walk.op) same)) (free_keys page walk.op w (λ founded. (stands founded).apart))
@@ -103,7 +113,7 @@ held_is_for walk page node pair w is target past here =
 -- the pair is there: the leaf is given back
 pub held_ended : (walk : Walk) (page : ℕ) (w now : World) → Stands walk (stage.Held page) w → now ≡ freed page walk.op w → Stepped walk stage.Ended w now
 held_ended walk page w now stands gives = subst (Stepped walk stage.Ended w) (sym gives)
-    (stepped_by walk (stage.Held page) stage.Ended w (freed page walk.op w) refl stands (λ here. free_step page walk.op w here.apart) (λ here. tt))
+    (stepped_by walk (stage.Held page) stage.Ended w (freed page walk.op w) refl stands (λ here. free_step page walk.op w here.apart) (λ here. freed_none page walk.op w here.place.3))
 
 -- the pairs of the operation's own index
 keys_of_own : (walk : Walk) (from : Stage) (w : World) (here : StandsIn walk from w) (at : Root) (keys : List Pair) → Chain w at keys → is_same_root at walk.at ≡ true → (leaves : List ℕ) × IsTree w walk.at here.tree leaves × (joined w leaves ≡ keys)
@@ -133,7 +143,7 @@ pub held_full : (walk : Walk) (page : ℕ) (node : NodeValue) (w : World) → St
 held_full walk page node w stands is enough founded =
     let here = stands founded in
     let seen = held_seen walk page node w is here in
-    at_stage walk (stage.Held page) (stage.Full page) w here (here.place.0, (node, record { is = is; owned = here.place.2; linked = seen.0.linked; of = seen.0.of; leaf = seen.1; enough = enough }))
+    at_stage walk (stage.Held page) (stage.Full page) w here (here.place.0, (node, record { is = is; owned = here.place.2; linked = seen.0.linked; of = seen.0.of; leaf = seen.1; enough = enough }), here.place.3)
 
 -- the pair is put
 pub puts_pair : (walk : Walk) (page : ℕ) (node new : NodeValue) (pair : Pair) (w : World) → page_at w page ≡ Holds node → node.leaf ≡ true → length pair.key ≡ node.key_len → is_within node.low node.high pair ≡ true → has_pair pair (pairs_in node) ≡ false → IsNode new → new ≡ record node { entries = with_entry (record { pair = pair; child = 0 }) node.entries } → StandsIn walk (stage.Held page) w → PutsPair walk.op page new w
@@ -157,7 +167,7 @@ edit_stepped : (walk : Walk) (page : ℕ) (new : NodeValue) (w mid now : World) 
 edit_stepped walk page new w mid now stands step same gives = subst (Stepped walk stage.Ended w) (sym (gives ∙ ap (freed page walk.op) same))
     (stepped_by walk (stage.Held page) stage.Ended w (freed page walk.op (edited walk.op page new w)) refl stands
     (λ here. let first = step here in IsStep-next walk.op w (edited walk.op page new w) (freed page walk.op (edited walk.op page new w)) first (free_step page walk.op (edited walk.op page new w) first.apart))
-    (λ here. tt))
+    (λ here. freed_none page walk.op (edited walk.op page new w) here.place.3))
 
 pub put_stepped : (walk : Walk) (page : ℕ) (new : NodeValue) (w mid now : World) → Stands walk (stage.Held page) w → (StandsIn walk (stage.Held page) w → PutsPair walk.op page new w) → mid ≡ edited walk.op page new w → now ≡ freed page walk.op mid → Stepped walk stage.Ended w now
 put_stepped walk page new w mid now stands puts = edit_stepped walk page new w mid now stands (λ here. IsStep-from_links walk.op w (edited walk.op page new w) (LeavesLinks-puts walk.op page new w here.apart (puts here)))

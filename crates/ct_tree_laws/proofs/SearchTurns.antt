@@ -20,7 +20,7 @@ use Rattle.ct_tree_laws.specs.declared.walk.Walk.{Walk}
 use Rattle.ct_tree_laws.specs.declared.walk.Stage.{Stage}
 use Rattle.ct_tree_laws.specs.declared.walk.Stage.TheVariants as stage
 use Rattle.ct_tree_laws.specs.Trees.{Tree, IsOf, IsAt, IsTree, IsApart, IsInRole, IsLeaf, IsLower, IsClear, HasPassed, IsNear, IsLowFor, IsAmong, Link, Linked, link_of, link_by, link_in, Rises, Chain, pairs_in_page, pairs_at, joined}
-use Rattle.ct_tree_laws.specs.Stands.{IsNearLeaf, IsReachedBySearch, IsAtStage, StandsIn, Stands, Keeps, Stepped, KeepsKeys}
+use Rattle.ct_tree_laws.specs.Stands.{HasNone, IsNearLeaf, IsReachedBySearch, IsAtStage, StandsIn, Stands, Keeps, Stepped, KeepsKeys}
 use Rattle.ct_tree_laws.proofs.Taking.{shared, ChangesLatches-share, ChangesLatches-free_all, has_latch-with_share_new, list_any-with_share_more, is_of_parts, is_of_from}
 use Rattle.ct_tree_laws.proofs.Holders.{list_any_gone}
 use Rattle.ct_tree_laws.proofs.Chains.{LowLe, LowLe-refl, IsUnder, IsOver, Roles, role_at, one_node, none_linked, lows_from, link_to, low_of_link, not_below_itself, below_le, Around, around}
@@ -29,7 +29,7 @@ use Rattle.ct_tree_laws.proofs.Edits.{joined_around}
 use Rattle.ct_tree_laws.proofs.Keys.{leaf_at, one_tree, KeepsKeys-latches}
 use Rattle.ct_tree_laws.proofs.Walking.{IsSeen, seen_leaf, near_right, near_down, past_low, right_at_of, here_or_end, next_past, next_leaf}
 use Rattle.ct_tree_laws.proofs.Turns.{at_stage, stepped_same, not_founded}
-use Rattle.ct_tree_laws.proofs.PutTurns.{stepped_by, freed, free_step}
+use Rattle.ct_tree_laws.proofs.PutTurns.{stepped_by}
 
 -- one low bound is below another, or not
 pub lower_or_not : (low other : Option Pair) → IsLower low other ⊎ LowLe other low
@@ -184,12 +184,12 @@ share_keys walk from page w now stands free is = subst (KeepsKeys w) (sym is) (K
 abbrev pub all_freed : ℕ → World → World
 all_freed op w = with_holds (filter (λ hold. not (hold.op == op)) w.holds) w
 
-stage_tidy : (walk : Walk) (from : Stage) (w : World) → IsTidy walk.op w → StandsIn walk from w → StandsIn walk stage.Start w
-stage_tidy walk from w tidy here = at_stage walk from stage.Start w here tidy
+all_none : (op : ℕ) (w : World) → HasNone op (all_freed op w)
+all_none op w page = list_any_gone (is_of page op) (λ hold. not (hold.op == op)) w.holds (λ hold of. ap not (eq-eqb hold.op op (is_of_parts page op hold of).1))
 
 pub begin_again : (walk : Walk) (from : Stage) (w mid now : World) → Stands walk from w → ((here : StandsIn walk from w) → IsTidy walk.op w) → mid ≡ w → now ≡ all_freed walk.op mid → Stepped walk stage.Start w now
 begin_again walk from w mid now stands tidy same gives = subst (Stepped walk stage.Start w) (sym (gives ∙ ap (all_freed walk.op) same))
-    (stepped_by walk from stage.Start w (all_freed walk.op w) refl stands (λ here. IsStep-latches walk.op w (all_freed walk.op w) here.apart (ChangesLatches-free_all walk.op w)) tidy)
+    (stepped_by walk from stage.Start w (all_freed walk.op w) refl stands (λ here. IsStep-latches walk.op w (all_freed walk.op w) here.apart (ChangesLatches-free_all walk.op w)) (λ here. (tidy here, all_none walk.op w)))
 
 pub again_keys : (walk : Walk) (from : Stage) (w mid now : World) → Stands walk from w → mid ≡ w → now ≡ all_freed walk.op mid → KeepsKeys w now
 again_keys walk from w mid now stands same gives = subst (KeepsKeys w) (sym (gives ∙ ap (all_freed walk.op) same)) (KeepsKeys-latches walk.op w (all_freed walk.op w) (λ founded. (stands founded).apart) (ChangesLatches-free_all walk.op w))
@@ -241,12 +241,13 @@ pub none_left : (op page : ℕ) (w mid now : World) → mid ≡ w → now ≡ al
 none_left op page w mid now same gives = ap (has_latch op page) gives ∙ list_any_gone (is_of page op) (λ hold. not (hold.op == op)) mid.holds (λ hold of. ap not (eq-eqb hold.op op (is_of_parts page op hold of).1))
 
 -- the leaf was cut before it was shared: it is given back, and the walk goes on
-pub shared_past : (walk : Walk) (above : Bool) (page : ℕ) (node : NodeValue) (q : ℕ) (w mid now : World) → Stands walk (stage.Shared page above) w → page_at w page ≡ Holds node → mid ≡ w → now ≡ freed page walk.op mid → place.Right q ≡ next_place node walk.target → Stepped walk (stage.Down q) w now
-shared_past walk above page node q w mid now stands is same gives on = subst (Stepped walk (stage.Down q) w) (sym (gives ∙ ap (freed page walk.op) same))
-    (stepped_by walk (stage.Shared page above) (stage.Down q) w (freed page walk.op w) refl stands (λ here. free_step page walk.op w here.apart)
+pub shared_past : (walk : Walk) (above : Bool) (page : ℕ) (node : NodeValue) (q : ℕ) (w mid now : World) → Stands walk (stage.Shared page above) w → page_at w page ≡ Holds node → mid ≡ w → now ≡ all_freed walk.op mid → place.Right q ≡ next_place node walk.target → Stepped walk (stage.Down q) w now
+shared_past walk above page node q w mid now stands is same gives on = subst (Stepped walk (stage.Down q) w) (sym (gives ∙ ap (all_freed walk.op) same))
+    (stepped_by walk (stage.Shared page above) (stage.Down q) w (all_freed walk.op w) refl stands (λ here. IsStep-latches walk.op w (all_freed walk.op w) here.apart (ChangesLatches-free_all walk.op w))
     (λ here.
     let near = past_near here in
-    (here.place.0, (near.0, near.1, (free_step page walk.op w here.apart).at here.tree near.0 near.1 q near.2, near.3))))
+    let step = IsStep-latches walk.op w (all_freed walk.op w) here.apart (ChangesLatches-free_all walk.op w) in
+    (here.place.0, (near.0, near.1, step.at here.tree near.0 near.1 q near.2, near.3), all_none walk.op w)))
   where
     past_near : (here : StandsIn walk (stage.Shared page above) w) → IsNear w here.tree walk.target q
     past_near here = ⊎_elim past on_here (cases_Bool (is_past node.high walk.target))
@@ -289,7 +290,7 @@ shared_not_down walk above page node q w mid stands is same on = not_founded w m
 -- a search ends
 pub end_stepped : (walk : Walk) (from : Stage) (w now : World) → Stands walk from w → now ≡ all_freed walk.op w → Stepped walk stage.Ended w now
 end_stepped walk from w now stands gives = subst (Stepped walk stage.Ended w) (sym gives)
-    (stepped_by walk from stage.Ended w (all_freed walk.op w) refl stands (λ here. IsStep-latches walk.op w (all_freed walk.op w) here.apart (ChangesLatches-free_all walk.op w)) (λ here. tt))
+    (stepped_by walk from stage.Ended w (all_freed walk.op w) refl stands (λ here. IsStep-latches walk.op w (all_freed walk.op w) here.apart (ChangesLatches-free_all walk.op w)) (λ here. all_none walk.op w))
 
 pub shared_tidy : (walk : Walk) (above : Bool) (page : ℕ) (w mid : World) → Stands walk (stage.Shared page above) w → mid ≡ w → IsTrue mid.founded → IsTidy walk.op mid
 shared_tidy walk above page w mid stands same founded = subst (IsTidy walk.op) (sym same) (stands (sym (ap (λ (v : World). v.founded) same) ∙ founded)).place.0
@@ -299,3 +300,9 @@ share_tidy walk above page w mid stands same founded = subst (IsTidy walk.op) (s
 
 pub leaf_tidy : (walk : Walk) (page : ℕ) (w mid : World) → Stands walk (stage.Leaf page) w → mid ≡ w → IsTrue mid.founded → IsTidy walk.op mid
 leaf_tidy walk page w mid stands same founded = subst (IsTidy walk.op) (sym same) (stands (sym (ap (λ (v : World). v.founded) same) ∙ founded)).place.0
+
+-- an operation that has ended has no latch
+pub ended_none : (walk : Walk) (to : Stage) (w now : World) → Stepped walk to w now → to ≡ stage.Ended → IsTrue w.founded → HasNone walk.op now
+ended_none walk to w now stepped ended founded =
+    let stands : Stands walk stage.Ended now = subst (λ at. Stands walk at now) ended stepped.stands in
+    (stands (stepped.founded ∙ founded)).place

@@ -21,13 +21,13 @@ use Rattle.ct_tree_laws.proofs.Cuts.{IsStep-cut}
 use Rattle.ct_tree_laws.proofs.Keys.{KeepsKeys-with_fresh, KeepsKeys-right, KeepsKeys-cut}
 use Rattle.ct_tree_laws.proofs.Walking.{onward_of}
 use Rattle.ct_tree_laws.proofs.Turns.{not_founded}
-use Rattle.ct_tree_laws.proofs.PutTurns.{stepped_by, freed, free_step, free_keys}
+use Rattle.ct_tree_laws.proofs.PutTurns.{stepped_by, freed, freed_none, free_step, free_keys}
 
 -- a page is allocated
 pub allocate_stepped : (walk : Walk) (page right : ℕ) (w now : World) → Stands walk (stage.Full page) w → right ≡ length w.pages → now ≡ with_fresh walk.op w → Stepped walk (stage.Split page right) w now
 allocate_stepped walk page right w now stands new is = subst (Stepped walk (stage.Split page right) w) (sym is)
     (stepped_by walk (stage.Full page) (stage.Split page right) w (with_fresh walk.op w) refl stands (λ here. IsStep-with_fresh walk.op w here.apart)
-    (λ here. (tidy here, (here.place.1.0, full here), subst (λ q. has_fresh walk.op q (with_fresh walk.op w) ≡ true) (sym new) (has_fresh-with_fresh walk.op w))))
+    (λ here. (tidy here, (here.place.1.0, full here), subst (λ q. has_fresh walk.op q (with_fresh walk.op w) ≡ true) (sym new) (has_fresh-with_fresh walk.op w), here.place.2)))
   where
     tidy : (here : StandsIn walk (stage.Full page) w) → IsTidy walk.op (with_fresh walk.op w)
     tidy here q mine = page_at-with_fresh walk.op w q ∙ ⊎_elim (λ one. ap (page_at w) one ∙ past) (λ old. here.place.0 q old) (has_fresh_new walk.op w q mine)
@@ -72,7 +72,7 @@ pub write_stepped : (walk : Walk) (page right : ℕ) (node new : NodeValue) (w n
 write_stepped walk page right node new w now stands is made same = subst (Stepped walk (stage.Cut page right) w) (sym same)
     (stepped_by walk (stage.Split page right) (stage.Cut page right) w (edited walk.op right new w) refl stands
     (λ here. IsStep-from_links walk.op w (edited walk.op right new w) (LeavesLinks-right walk.op right new w here.apart (writes_right walk page right node new w is made here)))
-    (λ here. (tidy here, (node, full here, written here), mine here)))
+    (λ here. (tidy here, (node, full here, written here), mine here, here.place.3)))
   where
     tidy : (here : StandsIn walk (stage.Split page right) w) → IsTidyBut walk.op right (edited walk.op right new w)
     tidy here q has apart = page_at-edited_other walk.op right new w q apart ∙ here.place.0 q (has_fresh_before walk.op right new w walk.op q has)
@@ -145,7 +145,7 @@ cut_stepped walk page right node new w mid now stands is made same gives =
     subst (Stepped walk stage.Start w) (sym all)
     (stepped_by walk (stage.Cut page right) stage.Start w (freed page walk.op (edited walk.op page (lower_half right node) w)) refl stands
     (λ here. let first = cut_step walk page right node w is here in IsStep-next walk.op w cut (freed page walk.op cut) first (free_step page walk.op cut first.apart))
-    (λ here. cut_tidy walk page right node w is here))
+    (λ here. (cut_tidy walk page right node w is here, freed_none page walk.op (edited walk.op page (lower_half right node) w) here.place.3)))
 
 pub cut_keys : (walk : Walk) (page right : ℕ) (node new : NodeValue) (w mid now : World) → Stands walk (stage.Cut page right) w → page_at w page ≡ Holds node → new ≡ lower_half right node → mid ≡ edited walk.op page new w → now ≡ freed page walk.op mid → KeepsKeys w now
 cut_keys walk page right node new w mid now stands is made same gives founded at keys chain =

@@ -31,19 +31,19 @@ pub descend_right : (walk : Walk) (page : ℕ) (node : NodeValue) (q : ℕ) (w n
 descend_right walk page node q w now stands is same on =
     stepped_same walk (stage.Down q) w now same (λ founded.
     let here = stands founded in
-    at_stage walk (stage.Down page) (stage.Down q) w here (here.place.0, near_right w here.tree walk.target page node q (seen_at walk page node w is here) (sym on)))
+    at_stage walk (stage.Down page) (stage.Down q) w here (here.place.0, near_right w here.tree walk.target page node q (seen_at walk page node w is here) (sym on), here.place.2))
 
 pub descend_down : (walk : Walk) (page : ℕ) (node : NodeValue) (q : ℕ) (w now : World) → Stands walk (stage.Down page) w → page_at w page ≡ Holds node → now ≡ w → Down q ≡ next_place node walk.target → Stepped walk (stage.Down q) w now
 descend_down walk page node q w now stands is same on =
     stepped_same walk (stage.Down q) w now same (λ founded.
     let here = stands founded in
-    at_stage walk (stage.Down page) (stage.Down q) w here (here.place.0, (near_down w here.tree walk.target page node q (seen_at walk page node w is here) (sym on)).0))
+    at_stage walk (stage.Down page) (stage.Down q) w here (here.place.0, (near_down w here.tree walk.target page node q (seen_at walk page node w is here) (sym on)).0, here.place.2))
 
 -- a node that a walk has come to, which is a leaf
 leaf_seen : (walk : Walk) (page : ℕ) (node : NodeValue) (w : World) → page_at w page ≡ Holds node → node.leaf ≡ true → (stands : StandsIn walk (stage.Down page) w) → StandsIn walk (stage.Leaf page) w
 leaf_seen walk page node w is leaf stands =
     let seen = seen_at walk page node w is stands in
-    at_stage walk (stage.Down page) (stage.Leaf page) w stands (stands.place.0, (node.low, record { node = node; is = is; of = seen.of; key_len = seen.role.key_len; kind = leaf; from = refl; linked = seen.linked }, seen.low))
+    at_stage walk (stage.Down page) (stage.Leaf page) w stands (stands.place.0, (node.low, record { node = node; is = is; of = seen.of; key_len = seen.role.key_len; kind = leaf; from = refl; linked = seen.linked }, seen.low), stands.place.2)
 
 last_seen : (walk : Walk) (page : ℕ) (node : NodeValue) (place : Place) (w : World) → page_at w page ≡ Holds node → place ≡ next_place node walk.target → ((q : ℕ) → place ≡ Right q → ⊥) → ((q : ℕ) → place ≡ Down q → ⊥) → (stands : StandsIn walk (stage.Down page) w) → IsLast node walk.target
 last_seen walk page node place w is on not_right not_down stands = last_here w stands.tree walk.target page node place (seen_at walk page node w is stands) (sym on) not_right not_down

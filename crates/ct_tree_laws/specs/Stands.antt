@@ -34,18 +34,26 @@ IsTidyBut op right w = (page : ℕ) → has_fresh op page w ≡ true → (page �
 abbrev pub IsReachedBySearch : World → Tree → ℕ → Bool → Target → ℕ → Type 0
 IsReachedBySearch w t op above target page = (low : Option Pair) × IsAt w t true low page × HasPassed w t op above target low
 
+-- an operation has no latch
+abbrev pub HasNone : ℕ → World → Type 0
+HasNone op w = (page : ℕ) → has_latch op page w ≡ false
+
+-- an operation has a latch on this page at most
+abbrev pub HasOnly : ℕ → ℕ → World → Type 0
+HasOnly op page w = (other : ℕ) → has_latch op other w ≡ true → other ≡ page
+
 -- what an operation knows at each of its stages
 abbrev pub IsAtStage : World → Tree → ℕ → Target → Stage → Type 0
-IsAtStage w t op target Start = IsTidy op w
-IsAtStage w t op target (Down page) = IsTidy op w × IsNear w t target page
-IsAtStage w t op target (Leaf page) = IsTidy op w × IsNearLeaf w t target page
-IsAtStage w t op target (Held page) = IsTidy op w × IsNearLeaf w t target page × (has_own op page w ≡ true)
-IsAtStage w t op target (Full page) = IsTidy op w × ((node : NodeValue) × IsFull w t op target page node)
-IsAtStage w t op target (Split page right) = IsTidy op w × ((node : NodeValue) × IsFull w t op target page node) × (has_fresh op right w ≡ true)
-IsAtStage w t op target (Cut page right) = IsTidyBut op right w × ((node : NodeValue) × IsFull w t op target page node × (page_at w right ≡ Holds (upper_half node))) × (has_fresh op right w ≡ true)
+IsAtStage w t op target Start = IsTidy op w × HasNone op w
+IsAtStage w t op target (Down page) = IsTidy op w × IsNear w t target page × HasNone op w
+IsAtStage w t op target (Leaf page) = IsTidy op w × IsNearLeaf w t target page × HasNone op w
+IsAtStage w t op target (Held page) = IsTidy op w × IsNearLeaf w t target page × (has_own op page w ≡ true) × HasOnly op page w
+IsAtStage w t op target (Full page) = IsTidy op w × ((node : NodeValue) × IsFull w t op target page node) × HasOnly op page w
+IsAtStage w t op target (Split page right) = IsTidy op w × ((node : NodeValue) × IsFull w t op target page node) × (has_fresh op right w ≡ true) × HasOnly op page w
+IsAtStage w t op target (Cut page right) = IsTidyBut op right w × ((node : NodeValue) × IsFull w t op target page node × (page_at w right ≡ Holds (upper_half node))) × (has_fresh op right w ≡ true) × HasOnly op page w
 IsAtStage w t op target (Share page above) = IsTidy op w × IsReachedBySearch w t op above target page
 IsAtStage w t op target (Shared page above) = IsTidy op w × IsReachedBySearch w t op above target page × (has_latch op page w ≡ true)
-IsAtStage w t op target Ended = Unit {0}
+IsAtStage w t op target Ended = HasNone op w
 
 -- an operation on a tree: the tree stands, no latches conflict, the target's key is as long as the tree's keys, and what the operation knows of its stage holds
 pub record StandsIn (walk : Walk) (stage : Stage) (w : World) : Type 0 where

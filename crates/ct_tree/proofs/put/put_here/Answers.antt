@@ -1,10 +1,12 @@
-use Rattle.std.proofs.Common.{sym, refl, subst}
+use Rattle.std.proofs.Common.{◌≡◌, ◌+◌, true, false, cond, inl, sym, refl, ap, ◌∙◌, subst}
+use Rattle.std.proofs.lemmas.Bool.{cond-true, cond-false}
+use Rattle.ct_node.specs.Nodes.{pairs_in, has_pair}
 use Rattle.ct_node.specs.Worlds.{edited, Puts}
 use Rattle.ct_tree_laws.specs.Stands.{ChangesKeys}
-use Rattle.ct_tree.specs.Answers.{put_at}
+use Rattle.ct_tree.specs.Answers.{put_at, has_at}
 use Rattle.ct_tree_laws.proofs.Turns.{not_founded}
-use Rattle.ct_tree_laws.proofs.PutTurns.{held_is_for, held_ended, present_keys, puts_pair, edited_tidy, put_stepped, put_keys}
-use Rattle.ct_tree.proofs.Done.{after_done, is_for_from, is_for_parts}
+use Rattle.ct_tree_laws.proofs.PutTurns.{held_is_for, held_ended, present_keys, has_keys, puts_pair, edited_tidy, put_stepped, put_keys}
+use Rattle.ct_tree.proofs.Done.{after_done, is_for_from, is_for_parts, bears_done, bears_other, bears_put_going}
 use Rattle.ct_tree.proofs.put.put_here.Goals as goal
 
 pub bad-requires : goal.bad-requires
@@ -59,3 +61,25 @@ returns-clause-keys g c =
     (put_keys c.args.walk.now c.args.page c.args.node.now c.put.new.self c.in-At.pair w mid now c.requires.stands c.requires.seen facts.0 facts.1 facts.2 (cc) c.count-count.ensures.node c.put.ensures.node
     (after_done c.edit-edited.result (λ _. edited c.args.walk.now.op c.args.page c.put.new.self w) w mid (cc) c.edit-edited.ensures.world)
     c.free-2.ensures.world)
+
+pub returns-then-has-clause-bears : goal.returns-then-has-clause-bears
+returns-then-has-clause-bears g c founded keys chain =
+    let w = g.N.Nodes.world c.args.nodes.now in
+    let before = g.N.Nodes.marked c.args.nodes.now in
+    let facts = is_for_parts c.args.node.now c.in-At.pair (cc) in
+    let there : has_pair c.in-At.pair (pairs_in c.args.node.now) ≡ true = cc in
+    let has : has_pair c.in-At.pair keys ≡ true = sym (has_keys c.args.walk.now c.args.page c.args.node.now c.in-At.pair w c.requires.stands c.requires.seen facts.2 founded keys chain) ∙ there in
+    subst (λ target. g.N.Nodes.marked c.free.new.self ≡ cond (has_at target keys) before c.args.mark) (sym c.in-At.is) (c.free.ensures.marked ∙ sym (cond-true (has_pair c.in-At.pair keys) before c.args.mark has))
+
+pub returns-then-not-is_done-clause-bears : goal.returns-then-not-is_done-clause-bears
+returns-then-not-is_done-clause-bears g c = bears_put_going c.args.walk.now c.args.mark c.edit-edited.result (g.N.Nodes.world c.args.nodes.now) (g.N.Nodes.marked c.args.nodes.now) (g.N.Nodes.marked c.edit-edited.new.self) (cc) (inl (bears_other c.edit-edited.result c.args.mark (g.N.Nodes.marked c.args.nodes.now) (g.N.Nodes.marked c.edit-edited.new.self) (cc) c.edit-edited.ensures.marked))
+
+pub returns-clause-bears : goal.returns-clause-bears
+returns-clause-bears g c founded keys chain =
+    let w = g.N.Nodes.world c.args.nodes.now in
+    let before = g.N.Nodes.marked c.args.nodes.now in
+    let facts = is_for_parts c.args.node.now c.in-At.pair (cc) in
+    let absent : has_pair c.in-At.pair (pairs_in c.args.node.now) ≡ false = cc in
+    let none : has_pair c.in-At.pair keys ≡ false = sym (has_keys c.args.walk.now c.args.page c.args.node.now c.in-At.pair w c.requires.stands c.requires.seen facts.2 founded keys chain) ∙ absent in
+    let bears = bears_done c.edit-edited.result c.args.mark before (g.N.Nodes.marked c.edit-edited.new.self) (cc) c.edit-edited.ensures.marked in
+    subst (λ target. g.N.Nodes.marked c.free-2.new.self ≡ cond (has_at target keys) before c.args.mark) (sym c.in-At.is) (c.free-2.ensures.marked ∙ bears ∙ sym (cond-false (has_pair c.in-At.pair keys) before c.args.mark none))

@@ -1,4 +1,5 @@
-use Rattle.ct_tree.proofs.Done.{puts_going, goes_going}
+use Rattle.std.proofs.Common.{inl}
+use Rattle.ct_tree.proofs.Done.{puts_going, goes_going, bears_put_going}
 use Rattle.ct_tree.proofs.put.put_step.Goals as goal
 
 pub returns-in-Start-clause-keys : goal.returns-in-Start-clause-keys
@@ -36,3 +37,21 @@ returns-in-Cut-clause-keys g c = puts_going c.args.walk.now c.cut_left.result.1 
 
 pub returns-in-Cut-clause-goes : goal.returns-in-Cut-clause-goes
 returns-in-Cut-clause-goes g c = goes_going c.cut_left.result.1 c.cut_left.result.0 c.cut_left.ensures.going c.cut_left.ensures.putting
+
+pub returns-in-Start-clause-bears : goal.returns-in-Start-clause-bears
+returns-in-Start-clause-bears g c = bears_put_going c.args.walk.now c.args.mark c.start.result.1 (g.N.Nodes.world c.args.nodes.now) (g.N.Nodes.marked c.args.nodes.now) (g.N.Nodes.marked c.start.new.nodes) c.start.ensures.going (inl c.start.ensures.bears)
+
+pub returns-in-Down-clause-bears : goal.returns-in-Down-clause-bears
+returns-in-Down-clause-bears g c = bears_put_going c.args.walk.now c.args.mark c.descend.result.1 (g.N.Nodes.world c.args.nodes.now) (g.N.Nodes.marked c.args.nodes.now) (g.N.Nodes.marked c.descend.new.nodes) c.descend.ensures.going (inl c.descend.ensures.bears)
+
+pub returns-in-Leaf-clause-bears : goal.returns-in-Leaf-clause-bears
+returns-in-Leaf-clause-bears g c = bears_put_going c.args.walk.now c.args.mark c.own_leaf.result.1 (g.N.Nodes.world c.args.nodes.now) (g.N.Nodes.marked c.args.nodes.now) (g.N.Nodes.marked c.own_leaf.new.nodes) c.own_leaf.ensures.going (inl c.own_leaf.ensures.bears)
+
+pub returns-in-Full-clause-bears : goal.returns-in-Full-clause-bears
+returns-in-Full-clause-bears g c = bears_put_going c.args.walk.now c.args.mark c.allocate.result.1 (g.N.Nodes.world c.args.nodes.now) (g.N.Nodes.marked c.args.nodes.now) (g.N.Nodes.marked c.allocate.new.nodes) c.allocate.ensures.going (inl c.allocate.ensures.bears)
+
+pub returns-in-Split-clause-bears : goal.returns-in-Split-clause-bears
+returns-in-Split-clause-bears g c = bears_put_going c.args.walk.now c.args.mark c.write_right.result.1 (g.N.Nodes.world c.args.nodes.now) (g.N.Nodes.marked c.args.nodes.now) (g.N.Nodes.marked c.write_right.new.nodes) c.write_right.ensures.going c.write_right.ensures.bears
+
+pub returns-in-Cut-clause-bears : goal.returns-in-Cut-clause-bears
+returns-in-Cut-clause-bears g c = bears_put_going c.args.walk.now c.args.mark c.cut_left.result.1 (g.N.Nodes.world c.args.nodes.now) (g.N.Nodes.marked c.args.nodes.now) (g.N.Nodes.marked c.cut_left.new.nodes) c.cut_left.ensures.going c.cut_left.ensures.bears

@@ -6,26 +6,25 @@ use Rattle.ct_node.specs.Nodes.{pairs_in, pair_in}
 use Rattle.ct_node.specs.Places.{is_ahead}
 use Rattle.ct_node.specs.Worlds.{Holds, page_at}
 use Rattle.ct_tree_laws.specs.declared.walk.Stage.TheVariants as stage
-use Rattle.ct_tree_laws.proofs.PutTurns.{freed_keys}
-use Rattle.ct_tree_laws.proofs.SearchTurns.{shared_right, shared_past, shared_not_down, shared_tidy}
+use Rattle.ct_tree_laws.proofs.SearchTurns.{again_keys, shared_right, shared_past, shared_not_down, shared_tidy}
 use Rattle.ct_tree_laws.proofs.Finds.{search_some, search_none, all_from_prefix}
 use Rattle.ct_tree_laws.proofs.Turns.{keys_same, stays}
 use Rattle.ct_node.specs.declared.target.Place.TheVariants.{Right, Here, End}
 use Rattle.ct_tree.proofs.Done.{when_done, caused_done}
 use Rattle.ct_tree.proofs.search.look_shared.Goals as goal
 
-pub free-requires : goal.free-requires
-free-requires g c = shared_tidy c.args.walk.now c.args.above c.args.page (g.N.Nodes.world c.args.nodes.now) (g.N.Nodes.world c.look-seen.new.self) c.requires c.look-seen.ensures.world
+pub free_all-requires : goal.free_all-requires
+free_all-requires g c = shared_tidy c.args.walk.now c.args.above c.args.page (g.N.Nodes.world c.args.nodes.now) (g.N.Nodes.world c.look-seen.new.self) c.requires c.look-seen.ensures.world
 
 pub returns-in-Right-clause-stepped : goal.returns-in-Right-clause-stepped
 returns-in-Right-clause-stepped g c =
     let w = g.N.Nodes.world c.args.nodes.now in
     let node = c.look-seen.new.into in
-    shared_past c.args.walk.now c.args.above c.args.page node c.in-Right.right w (g.N.Nodes.world c.look-seen.new.self) (g.N.Nodes.world c.free.new.self) c.requires
-    (when_done c.look-seen.result (λ _. page_at w c.args.page ≡ Holds node) (cc) c.look-seen.ensures.seen) c.look-seen.ensures.world c.free.ensures.world c.in-Right.ensures
+    shared_past c.args.walk.now c.args.above c.args.page node c.in-Right.right w (g.N.Nodes.world c.look-seen.new.self) (g.N.Nodes.world c.free_all.new.self) c.requires
+    (when_done c.look-seen.result (λ _. page_at w c.args.page ≡ Holds node) (cc) c.look-seen.ensures.seen) c.look-seen.ensures.world c.free_all.ensures.world c.in-Right.ensures
 
 pub returns-in-Right-clause-keys : goal.returns-in-Right-clause-keys
-returns-in-Right-clause-keys g c = freed_keys c.args.walk.now (stage.Shared c.args.page c.args.above) c.args.page (g.N.Nodes.world c.args.nodes.now) (g.N.Nodes.world c.look-seen.new.self) (g.N.Nodes.world c.free.new.self) c.requires c.look-seen.ensures.world c.free.ensures.world
+returns-in-Right-clause-keys g c = again_keys c.args.walk.now (stage.Shared c.args.page c.args.above) (g.N.Nodes.world c.args.nodes.now) (g.N.Nodes.world c.look-seen.new.self) (g.N.Nodes.world c.free_all.new.self) c.requires c.look-seen.ensures.world c.free_all.ensures.world
 
 pub returns-then-place-count : goal.returns-then-place-count
 returns-then-place-count g c =
@@ -39,6 +38,7 @@ returns-then-place-count g c =
       keys = keys_same w now c.look-seen.ensures.world;
       found = λ founded keys chain. sym (search_some c.args.walk.now c.args.above c.args.page node c.pair-pair.result w is (ap (slice_get (pairs_in node)) (sym c.count_ahead-place.ensures) ∙ c.pair-pair.ensures) (c.requires founded) keys chain);
       searching = refl;
+      bears = c.look-seen.ensures.marked;
       busy = tt;
       cause = cause;
     }
@@ -58,6 +58,7 @@ returns-in-Right-next_place g c =
       keys = keys_same w now c.look-seen.ensures.world;
       found = tt;
       searching = refl;
+      bears = c.look-seen.ensures.marked;
       busy = tt;
       cause = cause;
     }
@@ -77,6 +78,7 @@ returns-in-Here g c =
       keys = keys_same w now c.look-seen.ensures.world;
       found = λ founded keys chain. sym (search_none c.args.walk.now c.args.above c.args.page node w is clear (λ q one. let here : Here c.in-Here.field-0 ≡ Right q = c.in-Here.ensures ∙ one in absurd (cc)) (c.requires founded) keys chain);
       searching = refl;
+      bears = c.look-seen.ensures.marked;
       busy = tt;
       cause = cause;
     }
@@ -96,6 +98,7 @@ returns-in-End g c =
       keys = keys_same w now c.look-seen.ensures.world;
       found = λ founded keys chain. sym (search_none c.args.walk.now c.args.above c.args.page node w is clear (λ q one. let here : End ≡ Right q = c.in-End.ensures ∙ one in absurd (cc)) (c.requires founded) keys chain);
       searching = refl;
+      bears = c.look-seen.ensures.marked;
       busy = tt;
       cause = cause;
     }

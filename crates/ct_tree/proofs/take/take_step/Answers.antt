@@ -1,4 +1,5 @@
-use Rattle.ct_tree.proofs.Done.{takes_going, taken_going, take_goes_going, finding_from}
+use Rattle.std.proofs.Common.{false}
+use Rattle.ct_tree.proofs.Done.{takes_going, taken_going, take_goes_going, finding_from, bears_take_going}
 use Rattle.ct_tree.proofs.take.take_step.Goals as goal
 
 pub find_leaf-step-requires-clause-finding : goal.find_leaf-step-requires-clause-finding
@@ -12,3 +13,6 @@ returns-clause-found g c = taken_going c.args.walk.now c.find_leaf-step.result.1
 
 pub returns-clause-goes : goal.returns-clause-goes
 returns-clause-goes g c = take_goes_going c.find_leaf-step.result.1 c.find_leaf-step.result.0 c.find_leaf-step.ensures.going c.find_leaf-step.ensures.taking
+
+pub returns-clause-bears : goal.returns-clause-bears
+returns-clause-bears g c = bears_take_going c.args.mark c.find_leaf-step.result.1 false (g.N.Nodes.marked c.args.nodes.now) (g.N.Nodes.marked c.find_leaf-step.new.nodes) c.find_leaf-step.ensures.going c.find_leaf-step.ensures.bears
