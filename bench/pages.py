@@ -2,7 +2,7 @@
 """How long an edit of a record page and a fetch of a page in memory take, beside a copy of 4 KiB.
 
 Runs `pagebench WORK COUNT`, which does one kind of work in a loop, for each kind, several times,
-and takes the best processor time. The page has 31 records of 100 bytes. Prints the time a round and its ratio to
+and takes the best processor time. The page has 31 records of 100 bytes; `resize` puts images of 96 and of 100 bytes in turn. Prints the time a round and its ratio to
 that of the copy. A round of `clear` takes a record out and puts it in again, so its time is halved.
 
     bench/pages.py [ROUNDS]
@@ -15,7 +15,7 @@ import sys
 
 TOP = pathlib.Path(__file__).resolve().parent.parent
 PROGRAM = TOP / "crates/pagebench/out/pagebench"
-EDITS = {"copy": 1, "get": 1, "set": 1, "clear": 2, "fetch": 1}
+EDITS = {"copy": 1, "get": 1, "set": 1, "resize": 1, "clear": 2, "fetch": 1}
 
 
 def build():

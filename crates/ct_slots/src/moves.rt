@@ -54,8 +54,15 @@ fn slide(page: &mut [u8; PAGE_SIZE], low: usize, end: usize, to: usize)
     requires end { end ≤ 4096 }
     ensures { page.new ≡ take (low - (low - to)) page.old ++ replicate (to - low) 0 ++ take (end - low) (drop low page.old) ++ drop (to + (end - low)) page.old }
 {
+    if to == low {
+        return;
+    }
+    if to < low {
+        page.copy_within(low..end, to);
+        return;
+    }
     page.copy_within(low..end, to);
-    page[low..to.max(low)].fill(0);
+    page[low..to].fill(0);
 }
 
 /// Puts an entry at a place, with offset 0: what stands from there to `end` moves up by an entry.

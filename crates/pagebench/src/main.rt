@@ -9,7 +9,7 @@ use std::process::ExitCode;
 
 fn main(rt: HostRuntime) -> ExitCode {
     let Some((work, count)) = arguments(&rt) else {
-        let _ = eprintln!(&rt; "usage: pagebench copy|get|set|clear|fetch COUNT");
+        let _ = eprintln!(&rt; "usage: pagebench copy|get|set|resize|clear|fetch COUNT");
         return ExitCode::from(1);
     };
     match work::sum_of(rt.alloc(), work.as_str(), count) {

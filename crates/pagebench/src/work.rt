@@ -24,6 +24,7 @@ pub fn sum_of(alloc: Global, work: &str, count: u64) -> Option<u64> {
         "copy" => Some(copy(count)),
         "get" => Some(get(&full_page(), count)),
         "set" => Some(set(&mut full_page(), count)),
+        "resize" => Some(resize(&mut full_page(), count)),
         "clear" => Some(clear(&mut full_page(), count)),
         "fetch" => fetch(alloc, count).ok(),
         _ => None,
@@ -50,8 +51,8 @@ fn full_page() -> Slots {
 }
 
 /// Puts a record in where there is room for one more.
-fn put(slots: &mut Slots, num: u64, image: &[u8; RECORD_SIZE]) {
-    if slots.room() >= RECORD_SIZE + 8 {
+fn put(slots: &mut Slots, num: u64, image: &[u8]) {
+    if image.len() <= RECORD_SIZE && slots.room() >= RECORD_SIZE + 8 {
         slots.set(num, image);
     }
 }
@@ -71,6 +72,20 @@ fn get(slots: &Slots, count: u64) -> u64 {
 fn set(slots: &mut Slots, count: u64) -> u64 {
     for round in 0..count {
         put(slots, round % RECORDS, &[2; RECORD_SIZE]);
+    }
+    slots.room() as u64
+}
+
+/// Puts an image of another length in the place of one record after the other.
+fn resize(slots: &mut Slots, count: u64) -> u64 {
+    let image = [2; RECORD_SIZE];
+    for round in 0..count {
+        // The number of records is odd, so each record is longer and shorter in turn.
+        if round % 2 == 0 {
+            put(slots, round % RECORDS, &image[4..]);
+        } else {
+            put(slots, round % RECORDS, &image);
+        }
     }
     slots.room() as u64
 }
