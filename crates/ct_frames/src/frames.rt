@@ -3,7 +3,8 @@
 ghost use Rattle.std.specs.Prelude.{◌≡◌, ◌≤◌, ◌<◌, ◌^◌, ◌++◌, [], ◌∷◌, ℕ, List, All, map, Some, None, IsSome, IsTrue, IfErr, OnOk, OnErr, IsErrOf, MatchOption};
 ghost use Rattle.ct_disk.specs.Disk.{GoesOn, Only, unchanged, raised, Rose};
 ghost use Rattle.ct_frames.specs.Fetches.{Fetches, CallsFor};
-ghost use Rattle.ct_frames.specs.Pages.{PageImage, IsPageRead, ArePages, ReplaysAll, an_image, image_of, page_at, page_in};
+ghost use Rattle.ct_frames.specs.Pages.{PageImage, IsPageRead, ArePages, PlacesAll, ReplaysAll, an_image, image_of, page_at, page_in};
+ghost use Rattle.ct_frames.specs.declared.table.FrameTable.{FrameTable};
 ghost use Rattle.ct_frames.specs.Tables.{frame_at, dirty_at, bytes_at, SameFrames, Puts, IsLeast, IsClean, after_image};
 
 use crate::fault::{Fetched, FrameFault};
@@ -94,6 +95,8 @@ impl<P: Disk> Frames<P> {
     ) -> Result<(), FrameFault>
         requires { page < 2 ^ 50 }
         ensures ok { OnOk result (Puts page (after_image (dirty_at page self.old.table) bytes.now position) self.old.table self.new.table) }
+        ensures placed { (from : FrameTable) (images : List PageImage) → PlacesAll images from self.old.table
+            → OnOk result (PlacesAll (images ++ an_image page bytes.now position ∷ []) from self.new.table) }
         ensures pages { (base : ℕ → List ℕ) (images : List PageImage) → ArePages base images self.old.table
             → OnOk result (ArePages base (images ++ an_image page bytes.now position ∷ []) self.new.table) }
         ensures err { OnErr result (SameFrames self.old.table self.new.table) }

@@ -1,0 +1,2 @@
+pub use Rattle.ct_frames.specs.Pages
+pub mod Images
