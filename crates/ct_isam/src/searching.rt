@@ -174,7 +174,10 @@ fn pair_of_current(alloc: Global, current: Option<&Row>, place: &Place<'_>) -> R
     if !key_of(place.def.segs.as_slice(), place.def.null, image, &mut key) {
         return Err(Reply::NoCurrent);
     }
-    Ok(Pair::new(key, row.num))
+    match Pair::new(alloc, key.as_slice(), row.num) {
+        Ok(pair) => Ok(pair),
+        Err(_) => Err(Reply::Memory),
+    }
 }
 
 /// A search for a target in an index.

@@ -15,7 +15,7 @@ abbrev pub IsBytes : List ℕ → Type 0
 IsBytes [] = Unit {0}
 IsBytes (byte ∷ bytes) = (byte < 256) × IsBytes bytes
 
-below_from_Fits : (byte : ℕ) → Fits w8 byte → byte < 256
+pub below_from_Fits : (byte : ℕ) → Fits w8 byte → byte < 256
 below_from_Fits byte fits = omega (arith, fits)
 
 pub IsBytes-from_each : (bytes : List ℕ) → ((k : ℕ) → Fits w8 (get_or bytes k 0)) → IsBytes bytes

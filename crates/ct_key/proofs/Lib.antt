@@ -6,3 +6,4 @@ pub mod NumberLemmas
 pub mod CaseLemmas
 pub mod FrontLemmas
 pub mod FirstEight
+pub mod Fronts

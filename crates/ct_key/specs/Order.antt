@@ -1,5 +1,5 @@
 -- How keys sort, in the images' own values.
-use Rattle.std.specs.Prelude.{ℕ, ◌+◌, ◌*◌, ◌^◌, ℤ, pos, ◌-ℤ◌, List, [], ◌∷◌, length, map, Bool, ◌&&◌, ◌||◌, ◌==◌, nat_lt, nat_le, if◌then◌else◌}
+use Rattle.std.specs.Prelude.{ℕ, ◌+◌, ◌*◌, ◌^◌, ℤ, pos, ◌-ℤ◌, List, [], ◌∷◌, length, get_or, reverse, map, Bool, ◌&&◌, ◌||◌, ◌==◌, nat_lt, nat_le, if◌then◌else◌}
 use Rattle.std.specs.declared.cmp.Ordering.{Ordering}
 use Rattle.std.specs.declared.cmp.Ordering.TheVariants.{Equal}
 use Rattle.std.specs.Ordering.{nat_cmp, int_cmp, ordering_then}
@@ -14,7 +14,15 @@ abbrev pub number_of : List ℕ → ℕ
 number_of [] = 0
 number_of (byte ∷ bytes) = byte + 256 * number_of bytes
 
--- the same, in two's complement
+-- the first eight bytes, with zeros behind where there are fewer
+abbrev pub front_bytes : List ℕ → List ℕ
+front_bytes bytes = get_or bytes 0 0 ∷ get_or bytes 1 0 ∷ get_or bytes 2 0 ∷ get_or bytes 3 0 ∷ get_or bytes 4 0 ∷ get_or bytes 5 0 ∷ get_or bytes 6 0 ∷ get_or bytes 7 0 ∷ []
+
+-- the number that they give, high byte first
+abbrev pub front_number : List ℕ → ℕ
+front_number bytes = number_of (reverse (front_bytes bytes))
+
+-- the number that bytes give, in two's complement
 abbrev pub signed_number_of : List ℕ → ℤ
 signed_number_of bytes = if nat_lt (2 * number_of bytes) (256 ^ length bytes) then pos (number_of bytes) else pos (number_of bytes) -ℤ pos (256 ^ length bytes)
 

@@ -3,7 +3,7 @@
 
 ghost use Rattle.std.specs.Prelude.{◌≡◌, ◌+◌, ◌<◌, ◌≤◌, [], ◌∷◌, ◌++◌, length, IsOk, IfOk, OnOk, OnErr};
 
-use crate::order::order;
+use crate::order::compare_bytes;
 use ct_definitions::LONGEST_KEY;
 use ct_items::NoMemory;
 use smallvec::SmallVec;
@@ -151,6 +151,6 @@ impl Ord for KeyBuf {
     ghost matches_eq = { lists_ties nat_cmp unsigned_ties };
 
     fn cmp(&self, other: &KeyBuf) -> Ordering {
-        order(self.as_slice(), other.as_slice())
+        compare_bytes(self.as_slice(), other.as_slice())
     }
 }

@@ -17,5 +17,6 @@ pub use laws::{
     int_parts_sort_as_numbers, keys_sort_by_segments, sgn_parts_sort_as_signed_numbers,
     targets_become_fronts, ureg_parts_agree_but_for_case,
 };
+pub use order::{compare_by_fronts, compare_bytes, front_number};
 pub use parts::key_of;
 pub use target::{key_len, target_key};

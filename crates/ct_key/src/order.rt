@@ -3,12 +3,12 @@
 ghost use Rattle.std.specs.Prelude.{◌≡◌, ◌<◌, ◌≤◌, ℕ, slice_index, length, take, reverse};
 ghost use Rattle.std.specs.Ordering.{nat_cmp};
 ghost use Rattle.std.specs.Cmp.Lexicographic.{slice_cmp};
-ghost use Rattle.ct_key.specs.Order.{number_of};
+ghost use Rattle.ct_key.specs.Order.{number_of, front_number};
 
 use std::cmp::Ordering;
 
 /// How bytes compare, the first pair that differs first.
-pub(crate) fn order(bytes: &[u8], others: &[u8]) -> Ordering
+pub fn compare_bytes(bytes: &[u8], others: &[u8]) -> Ordering
     ensures { result ≡ slice_cmp nat_cmp bytes.now others.now }
 {
     if bytes.len() < 8 || others.len() < 8 {
@@ -21,6 +21,41 @@ pub(crate) fn order(bytes: &[u8], others: &[u8]) -> Ordering
     }
     let rest = &bytes[8..];
     rest.cmp(&&others[8..])
+}
+
+/// How bytes compare of which the front numbers are known: these decide where they differ.
+pub fn compare_by_fronts(front: u64, bytes: &[u8], other_front: u64, others: &[u8]) -> Ordering
+    requires front { front ≡ front_number bytes.now }
+    requires other { other_front ≡ front_number others.now }
+    ensures { result ≡ slice_cmp nat_cmp bytes.now others.now }
+{
+    if front != other_front {
+        return front.cmp(&other_front);
+    }
+    compare_bytes(bytes, others)
+}
+
+/// The number that the first eight bytes give, high byte first, with zeros behind where there are fewer.
+pub fn front_number(bytes: &[u8]) -> u64
+    ensures { result ≡ front_number bytes.now }
+{
+    u64::from_be_bytes([
+        byte_at(bytes, 0),
+        byte_at(bytes, 1),
+        byte_at(bytes, 2),
+        byte_at(bytes, 3),
+        byte_at(bytes, 4),
+        byte_at(bytes, 5),
+        byte_at(bytes, 6),
+        byte_at(bytes, 7),
+    ])
+}
+
+// The byte at a place, or 0 behind the end.
+fn byte_at(bytes: &[u8], place: usize) -> u8
+    ensures { result ≡ slice_index bytes.now place }
+{
+    if place < bytes.len() { bytes[place] } else { 0 }
 }
 
 // The number that the first eight bytes give, high byte first.

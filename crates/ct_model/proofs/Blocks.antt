@@ -1,10 +1,11 @@
 -- The records of one block: what they use, and which numbers they have.
-use Rattle.std.proofs.Common.{◌≡◌, ◌≢◌, ℕ, zero, suc, ◌+◌, ◌*◌, ◌-◌, ◌<◌, ◌≤◌, ◌^◌, min, Bool, true, false, ◌&&◌, ◌==◌, nat_le, if◌then◌else◌, is_none, IfSome, IfNone, List, [], ◌∷◌, length, drop, drop-cons, get_or, filter, sum_by, Option, Some, None, refl, ap, sym, ◌∙◌, arith}
+use Rattle.std.proofs.Common.{◌≡◌, ◌≢◌, ℕ, zero, suc, ◌+◌, ◌*◌, ◌-◌, ◌/◌, ◌<◌, ◌≤◌, ◌^◌, min, Bool, true, false, ◌&&◌, ◌==◌, nat_le, if◌then◌else◌, is_none, IfSome, IfNone, List, [], ◌∷◌, length, drop, drop-cons, get_or, filter, sum_by, Option, Some, None, refl, ap, sym, ◌∙◌, arith}
 use Rattle.std.specs.List.{list_all}
+use Rattle.std.proofs.Math.Nat.{div-mul-le_self, mul-le-mul_right, le-div_iff_mul-le}
 use Rattle.std.proofs.lemmas.Bool.Decides.{nat_tests}
 use Rattle.std.proofs.lemmas.List.Sums.{sum_by-cons}
 use Rattle.ct_definitions.specs.declared.store.Row.{Row}
-use Rattle.ct_definitions.specs.Room.{row_at, block_of, use_of, block_use, use_beside}
+use Rattle.ct_definitions.specs.Room.{row_at, block_of, use_of, block_use, use_beside, has_room}
 use Rattle.ct_definitions.specs.Reached.{rise_above}
 use Rattle.ct_laws.proofs.Rows.{rise_above_lower, row_at_none}
 use Rattle.ct_model.specs.Free.{IsFree, IsNotFree}
@@ -36,6 +37,46 @@ all_part block (row ∷ rows) = grind (arith, all_part block rows)
 pub rising_part : (last block : ℕ) (rows : List Row) → rise_above last rows ≡ true → rise_above last (rows_of block rows) ≡ true
 rising_part last block [] rise = refl
 rising_part last block (row ∷ rows) rise = grind (arith, nat_tests, rising_part row.num block rows, rise_above_lower last row.num (rows_of block rows))
+
+-- they use at most as much as that many images of the greatest length
+use_at_most : (num longest : ℕ) (rows : List Row) → list_all (λ row. nat_le (length row.image) longest) rows ≡ true → sum_by (use_beside num) rows ≤ length (rows_of (block_of num) rows) * (longest + 8)
+use_at_most num longest [] short = omega arith
+use_at_most num longest (row ∷ rows) short =
+    let own : length row.image ≤ longest = grind (arith, nat_tests) in
+    let rest : sum_by (use_beside num) rows ≤ length (rows_of (block_of num) rows) * (longest + 8) = use_at_most num longest rows (grind arith) in
+    by_test own rest (block_of row.num == block_of num) (row.num == num) refl
+  where
+    by_test : length row.image ≤ longest → sum_by (use_beside num) rows ≤ length (rows_of (block_of num) rows) * (longest + 8) → (here same : Bool) → (block_of row.num == block_of num) ≡ here
+        → sum_by (use_beside num) (row ∷ rows) ≤ length (rows_of (block_of num) (row ∷ rows)) * (longest + 8)
+    by_test own rest true same is =
+        let one : use_beside num row ≤ longest + 8 = grind (arith, nat_tests) in
+        let more : length (rows_of (block_of num) (row ∷ rows)) ≡ suc (length (rows_of (block_of num) rows)) = grind arith in
+        rw more (omega (arith, sum_by-cons (use_beside num) row rows, one, rest))
+    by_test own rest false same is =
+        let none : use_beside num row ≡ 0 = grind arith in
+        let more : length (rows_of (block_of num) (row ∷ rows)) ≡ length (rows_of (block_of num) rows) = grind arith in
+        rw more (omega (arith, sum_by-cons (use_beside num) row rows, none, rest))
+
+-- a block has room for one image that can be stored
+pub some_fit : (longest : ℕ) → longest ≤ 3840 → 1 ≤ 3968 / (longest + 8)
+some_fit longest stored = (le-div_iff_mul-le (omega arith)).1 (omega arith)
+
+-- where few enough stand beside an image, there is room for it
+pub room_for_few : (num longest most : ℕ) (image : List ℕ) (rows : List Row) → list_all (λ row. nat_le (length row.image) longest) rows ≡ true → length image ≤ longest → longest ≤ 3840 → most ≡ 3968 / (longest + 8) - 1 → length (rows_of (block_of num) rows) ≤ most → true ≡ has_room num image rows
+room_for_few num longest most image rows short own stored is few =
+    let used : sum_by (use_beside num) rows ≤ length (rows_of (block_of num) rows) * (longest + 8) = use_at_most num longest rows short in
+    let whole : 3968 / (longest + 8) ≡ suc most = omega (arith, some_fit longest stored, is) in
+    let product : suc most * (longest + 8) ≤ 3968 = rw whole at (div-mul-le_self 3968 (longest + 8)) in
+    let split : suc most * (longest + 8) ≡ (longest + 8) + most * (longest + 8) = more most (longest + 8) in
+    let fewer : length (rows_of (block_of num) rows) * (longest + 8) ≤ most * (longest + 8) = mul-le-mul_right (longest + 8) few in
+    let fits : length image + 8 + sum_by (use_beside num) rows ≤ 3968 = room (length image) (sum_by (use_beside num) rows) (length (rows_of (block_of num) rows) * (longest + 8)) (most * (longest + 8)) (suc most * (longest + 8)) own used fewer split product in
+    grind (arith, nat_tests)
+  where
+    room : (len used some more whole : ℕ) → len ≤ longest → used ≤ some → some ≤ more → whole ≡ (longest + 8) + more → whole ≤ 3968 → len + 8 + used ≤ 3968
+    room len used some more whole a b c d e = omega arith
+
+    more : (count width : ℕ) → suc count * width ≡ width + count * width
+    more count width = omega arith
 
 -- ---- the numbers that a block's records have
 

@@ -1,14 +1,16 @@
 -- Blocks in which no number is free, through changes of the records.
 use Rattle.std.proofs.Common.{◌≡◌, ◌≢◌, ℕ, ◌+◌, ◌<◌, ◌≤◌, min, Bool, true, false, ◌&&◌, ◌==◌, nat_le, is_none, List, [], ◌∷◌, length, replicate, sum_by, Option, Some, None, option_map, refl, ap, sym, ◌∙◌, arith}
+use Rattle.std.specs.List.{list_all}
 use Rattle.std.proofs.lemmas.Bool.Decides.{nat_tests}
 use Rattle.std.proofs.lemmas.List.{length-replicate}
 use Rattle.ct_definitions.specs.declared.definition.Kind.{Kind}
 use Rattle.ct_definitions.specs.declared.definition.Kind.TheVariants.{Fixed, Variable}
 use Rattle.ct_definitions.specs.declared.store.Row.{Row}
 use Rattle.ct_definitions.specs.Validity.{is_valid_kind, least_len}
-use Rattle.ct_definitions.specs.Room.{row_at, image_at, block_of, use_of, use_beside}
+use Rattle.ct_definitions.specs.Room.{has_fitting_len, row_at, image_at, block_of, use_of, use_beside}
 use Rattle.ct_definitions.specs.Changes.{with_row, with_image, without_row}
 use Rattle.ct_laws.proofs.Rows.{num-row_at, sum_by-with_row, sum_by-with_image, sum_by-without_row, row_at-with_image_same, row_at-with_image_other, row_at-without_row_other}
+use Rattle.ct_model.specs.Fitting.{longest_len}
 use Rattle.ct_model.specs.Free.{is_free, AreFull}
 use Rattle.ct_model.proofs.Places.{none-with_image, none-without_row}
 use Rattle.ct_model.proofs.FreeNumbers.{is_none-image_at}
@@ -112,3 +114,15 @@ AreFull-longer block least len rows longer full num low below image same =
 pub least_short : (kind : Kind) → is_valid_kind kind ≡ true → least_len kind ≤ 3840
 least_short (Fixed len) valid = grind (arith, nat_tests)
 least_short (Variable low high) valid = grind (arith, nat_tests)
+
+-- no image that fits is longer
+pub longest_fits : (kind : Kind) (len : ℕ) → has_fitting_len kind len ≡ true → len ≤ longest_len kind
+longest_fits (Fixed fixed) len fits = grind (arith, nat_tests)
+longest_fits (Variable low high) len fits = grind (arith, nat_tests)
+
+pub none_longer : (kind : Kind) (rows : List Row) → list_all (λ row. has_fitting_len kind (length row.image)) rows ≡ true → list_all (λ row. nat_le (length row.image) (longest_len kind)) rows ≡ true
+none_longer kind [] fits = refl
+none_longer kind (row ∷ rows) fits =
+    let own : length row.image ≤ longest_len kind = longest_fits kind (length row.image) (grind arith) in
+    let rest : list_all (λ (other : Row). nat_le (length other.image) (longest_len kind)) rows ≡ true = none_longer kind rows (grind arith) in
+    grind (arith, nat_tests)

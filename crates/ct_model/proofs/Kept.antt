@@ -1,5 +1,5 @@
 -- What is kept beside a file stays right through each change of its records.
-use Rattle.std.proofs.Common.{◌≡◌, ℕ, ◌≤◌, ◌^◌, min, Bool, true, ◌&&◌, List, [], ◌∷◌, ◌++◌, take, length, None, ◌∙◌, arith, option_map, subst, Option, Some, ap, sym, refl}
+use Rattle.std.proofs.Common.{◌≡◌, ℕ, ◌≤◌, ◌^◌, min, Bool, true, ◌&&◌, nat_le, List, [], ◌∷◌, ◌++◌, take, length, None, ◌∙◌, arith, option_map, subst, Option, Some, ap, sym, refl}
 use Rattle.std.specs.List.{list_all}
 use Rattle.ct_definitions.specs.declared.store.Row.{Row}
 use Rattle.ct_definitions.specs.declared.store.File.{File}
@@ -9,13 +9,13 @@ use Rattle.ct_definitions.specs.Changes.{with_row, with_image, without_row, with
 use Rattle.ct_definitions.specs.Reached.{rise_above}
 use Rattle.ct_laws.proofs.Rows.{list_all-with_row, list_all-with_image, list_all-without_row, rise_above-with_row, rise_above-with_image, rise_above-without_row, without_row-with_row}
 use Rattle.ct_model.specs.declared.cache.Cache.{Cache}
-use Rattle.ct_model.specs.Fitting.{is_fitting, reads_keys}
+use Rattle.ct_model.specs.Fitting.{is_fitting, longest_len, reads_keys}
 use Rattle.ct_model.specs.Free.{AreFull}
 use Rattle.ct_model.specs.Stored.{IsStored}
 use Rattle.ct_model.specs.EachIndex.{pairs_of_each, with_pairs_of, without_pairs_of, exchanged_pairs, AreApart, AreFresh, is_taken_among}
 use Rattle.ct_model.proofs.EachPairs.{added_each, apart_each, less_each, exchanged_each, fresh_each, taken_each}
 use Rattle.ct_model.proofs.Places.{none-with_image, none-without_row}
-use Rattle.ct_model.proofs.FullBlocks.{AreFull-with_row, AreFull-without_row, least_short}
+use Rattle.ct_model.proofs.FullBlocks.{AreFull-with_row, AreFull-without_row, least_short, none_longer}
 use Rattle.ct_definitions.specs.declared.definition.IndexDef.{IndexDef}
 use Rattle.ct_definitions.specs.Pairs.{Pair}
 use Rattle.ct_model.proofs.KeysRead.{fitting_images, reads_each, reads_found}
@@ -110,6 +110,10 @@ not_deleted file num none = ap (with_records file) (sym (none-without_row num fi
 -- the images of a fitting file's least length can be stored
 pub least_stored : (file : File) → is_fitting file ≡ true → least_len file.def.kind ≤ 3840
 least_stored file fitting = least_short file.def.kind (grind arith)
+
+-- no image of a fitting file is longer than its greatest length
+pub none_longer_stored : (file : File) → is_fitting file ≡ true → list_all (λ row. nat_le (length row.image) (longest_len file.def.kind)) file.records ≡ true
+none_longer_stored file fitting = none_longer file.def.kind file.records (grind arith)
 
 -- a taken key is one that a pair of another number has
 pub taken_stored : (file : File) (cache : Cache) (num : ℕ) (image : List ℕ) → IsStored file cache → is_taken_among file.def.indexes num image cache.pairs.items ≡ has_taken_key file num image

@@ -4,6 +4,7 @@ use Rattle.std.proofs.Math.Nat.{sub-zero}
 use Rattle.std.specs.List.{prefix_len}
 use Rattle.std.specs.List.Sorted.{IsNonDecreasingBy, IsPartitionPoint}
 use Rattle.std.proofs.lemmas.Bool.Decides.{nat_tests}
+use Rattle.std.proofs.lemmas.List.{length-take}
 use Rattle.ct_definitions.specs.declared.store.Row.{Row}
 use Rattle.ct_definitions.specs.Room.{row_at, block_of}
 use Rattle.ct_definitions.specs.Changes.{with_row, with_image, without_row}
@@ -39,6 +40,30 @@ nums_rise last (row ∷ rows) rise (suc i) (suc j) d low within = nums_rise row.
 -- and neither do their blocks
 pub blocks_rise : (rows : List Row) → rise_above 0 rows ≡ true → IsNonDecreasingBy (λ (row : Row). block_of row.num) rows
 blocks_rise rows rise i j d low within = let nums : (get_or rows i d).num ≤ (get_or rows j d).num = nums_rise 0 rows rise i j d low within in omega arith
+
+-- what was read at a place
+got : {X : Type 0} (xs : List X) (i : ℕ) (y d : X) → Some y ≡ slice_get xs i → get_or xs i d ≡ y
+got [] i y d read = cc
+got (x ∷ xs) zero y d read = cc
+got (x ∷ xs) (suc i) y d read = got xs i y d read
+
+-- where each passes, the front that passes is the whole
+all_pass : {X : Type 0} (p : X → Bool) (xs : List X) → ((i : ℕ) (d : X) → i < length xs → p (get_or xs i d) ≡ true) → prefix_len p xs ≡ length xs
+all_pass p [] each = refl
+all_pass p (x ∷ xs) each =
+    let passes : p x ≡ true = each 0 x (omega arith) in
+    let rest : prefix_len p xs ≡ length xs = all_pass p xs (λ i d within. each (suc i) d (omega arith)) in
+    grind (arith, passes, rest)
+
+-- so it is where the last passes and with it all that are no greater
+pub last_decides : (key : Row → ℕ) (p : Row → Bool) (rows : List Row) (last : Row) → IsNonDecreasingBy key rows → Some last ≡ slice_get rows (length rows - 1) → ((row : Row) → key row ≤ key last → p row ≡ true) → prefix_len p rows ≡ length rows
+last_decides key p rows last rise is below = all_pass p rows each
+  where
+    each : (i : ℕ) (d : Row) → i < length rows → p (get_or rows i d) ≡ true
+    each i d within =
+        let up : key (get_or rows i d) ≤ key (get_or rows (length rows - 1) d) = rise i (length rows - 1) d (omega arith) (omega arith) in
+        let top : key (get_or rows (length rows - 1) d) ≡ key last = ap key (got rows (length rows - 1) last d is) in
+        below (get_or rows i d) (omega arith)
 
 -- ---- the record of a number
 
@@ -212,3 +237,41 @@ block_part last block (row ∷ rows) rise = part_of (block_part row.num block ro
         let other : (block_of row.num == block) ≡ false = grind (arith, nat_tests) in
         let above : block < block_of row.num = grind (arith, nat_tests) in
         rw other (sym (none_behind row.num block rows after above))
+
+-- a record of a lower block stands before a block's records
+starts_behind : (last block j : ℕ) (rows : List Row) (row : Row) → rise_above last rows ≡ true → Some row ≡ slice_get rows j → block_of row.num < block → j < starts block rows
+starts_behind last block j [] row rise read low = cc
+starts_behind last block zero (first ∷ rows) row rise read low =
+    let same : row ≡ first = cc in
+    let below : block_of first.num < block = rw same at low in
+    grind (arith, nat_tests)
+starts_behind last block (suc j) (first ∷ rows) row rise read low =
+    let after : rise_above first.num rows ≡ true = grind arith in
+    let rest : j < starts block rows = starts_behind first.num block j rows row after read low in
+    let within : j < length rows = read_within rows j row read in
+    let above : first.num < (get_or rows j row).num = num_above first.num rows j row after within in
+    let same : (get_or rows j row).num ≡ row.num = ap (λ (r : Row). r.num) (got rows j row row read) in
+    let below : block_of first.num < block = omega arith in
+    grind (arith, nat_tests)
+  where
+    read_within : (rows : List Row) (j : ℕ) (row : Row) → Some row ≡ slice_get rows j → j < length rows
+    read_within [] j row read = cc
+    read_within (r ∷ rows) zero row read = omega arith
+    read_within (r ∷ rows) (suc j) row read = let rest : j < length rows = read_within rows j row read in omega arith
+
+-- a block has at most as many records as stand between
+part_short : (block : ℕ) (rows : List Row) → rise_above 0 rows ≡ true → length (filter (λ row. block_of row.num == block) rows) ≤ ends block rows - starts block rows
+part_short block rows rise =
+    let n = ends block rows - starts block rows in
+    let part : length (take n (drop (starts block rows) rows)) ≡ length (filter (λ row. block_of row.num == block) rows) = ap length (block_part 0 block rows rise) in
+    let short : length (take n (drop (starts block rows) rows)) ≤ n = omega (arith, length-take n (drop (starts block rows) rows)) in
+    omega arith
+
+pub few_before : (block end most : ℕ) (rows : List Row) → rise_above 0 rows ≡ true → end ≡ ends block rows → end ≤ most → length (filter (λ row. block_of row.num == block) rows) ≤ most
+few_before block end most rows rise is few = let part : length (filter (λ row. block_of row.num == block) rows) ≤ ends block rows - starts block rows = part_short block rows rise in omega arith
+
+pub few_behind : (block end most : ℕ) (rows : List Row) (row : Row) → rise_above 0 rows ≡ true → end ≡ ends block rows → most < end → Some row ≡ slice_get rows (end - most - 1) → block_of row.num < block → length (filter (λ row. block_of row.num == block) rows) ≤ most
+few_behind block end most rows row rise is more read low =
+    let part : length (filter (λ row. block_of row.num == block) rows) ≤ ends block rows - starts block rows = part_short block rows rise in
+    let behind : end - most - 1 < starts block rows = starts_behind 0 block (end - most - 1) rows row rise read low in
+    omega arith

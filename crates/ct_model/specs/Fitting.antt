@@ -2,6 +2,8 @@
 use Rattle.std.specs.Prelude.{ℕ, length, List, Bool, ◌&&◌, nat_le, Option}
 use Rattle.std.specs.List.{list_all}
 use Rattle.ct_definitions.specs.declared.definition.IndexDef.{IndexDef}
+use Rattle.ct_definitions.specs.declared.definition.Kind.{Kind}
+use Rattle.ct_definitions.specs.declared.definition.Kind.TheVariants.{Fixed, Variable}
 use Rattle.ct_definitions.specs.declared.definition.TheConstants.{LONGEST_KEY}
 use Rattle.ct_definitions.specs.declared.store.Row.{Row}
 use Rattle.ct_definitions.specs.declared.store.File.{File}
@@ -16,6 +18,11 @@ reads_keys index len = list_all (is_valid_seg len) index.segs && nat_le (key_len
 -- whether they lie in the images of the records
 abbrev pub reads_all_keys : IndexDef → List Row → Bool
 reads_all_keys index rows = list_all (λ row. reads_keys index (length row.image)) rows
+
+-- the greatest length that a file of the kind allows
+abbrev pub longest_len : Kind → ℕ
+longest_len (Fixed len) = len
+longest_len (Variable min max) = max
 
 -- a file whose definition is valid and whose images have lengths that it allows
 abbrev pub is_fitting : File → Bool

@@ -3,7 +3,7 @@
 
 ghost use Rattle.std.specs.Prelude.{◌≡◌, length, true, OnOk, OnErr};
 ghost use Rattle.std.specs.List.{list_all};
-ghost use Rattle.ct_definitions.specs.Pairs.{pair_of};
+ghost use Rattle.ct_definitions.specs.Keys.{key_of};
 ghost use Rattle.ct_pairs.specs.Finds.{with_pair_of, without_pair_of, IsApart};
 ghost use Rattle.ct_model.specs.Fitting.{reads_keys};
 ghost use Rattle.ct_model.specs.EachIndex.{with_pairs_of, without_pairs_of, exchanged_pairs, has_same_key, AreApart, AreFresh};
@@ -14,16 +14,17 @@ use ct_key::{KeyBuf, key_of};
 use ct_pairs::{Pair, Pairs};
 use std::alloc::Global;
 
-// the pair of a record, where it has a key in the index
-fn pair_of(alloc: Global, index: &IndexDef, num: u64, image: &[u8]) -> Option<Pair>
+// the key of an image, where it has one in the index
+fn key_in(alloc: Global, index: &IndexDef, image: &[u8]) -> Option<KeyBuf>
     requires { reads_keys index.now (length image.now) ≡ true }
-    ensures { result ≡ pair_of index.now (record { num = num; image = image.now }) }
+    ensures { result ≡ key_of index.now image.now }
 {
     let mut key = KeyBuf::new(alloc);
-    if !key_of(index.segs.as_slice(), index.null, image, &mut key) {
-        return None;
+    if key_of(index.segs.as_slice(), index.null, image, &mut key) {
+        Some(key)
+    } else {
+        None
     }
-    Some(Pair::new(key, num))
 }
 
 // puts the pair of a record, which is not among the pairs
@@ -39,8 +40,8 @@ fn put_pair(
     ensures ok { OnOk result (pairs.new ≡ with_pair_of index.now (record { num = num; image = image.now }) pairs.old) }
     ensures err { OnErr result (pairs.new ≡ pairs.old) }
 {
-    match pair_of(alloc, index, num, image) {
-        Some(pair) => pairs.put(pair),
+    match key_in(alloc, index, image) {
+        Some(key) => pairs.put(Pair::new(alloc, key.as_slice(), num)?),
         None => Ok(()),
     }
 }
@@ -50,8 +51,8 @@ fn take_pair(alloc: Global, pairs: &mut Pairs, index: &IndexDef, num: u64, image
     requires { reads_keys index.now (length image.now) ≡ true }
     ensures { pairs.new ≡ without_pair_of index.now (record { num = num; image = image.now }) pairs.old }
 {
-    if let Some(pair) = pair_of(alloc, index, num, image) {
-        pairs.take(&pair);
+    if let Some(key) = key_in(alloc, index, image) {
+        pairs.take(key.as_slice(), num);
     }
 }
 

@@ -10,7 +10,8 @@ ghost use Rattle.ct_model.specs.Fitting.{reads_keys};
 ghost use Rattle.ct_model.specs.Stored.{IsStored};
 
 use crate::cache::Cache;
-use crate::room::{has_fitting_len, has_room};
+use crate::room::{has_fitting_len, has_room_beside};
+use crate::validity::longest_len;
 use ct_definitions::{File, IndexDef};
 use ct_key::{KeyBuf, key_of};
 use ct_pairs::Pairs;
@@ -77,5 +78,6 @@ pub(crate) fn can_stand(alloc: Global, file: &File, cache: &Cache, num: u64, ima
     {
         return false;
     }
-    has_room(num, image, file.records.as_slice())
+    let longest = longest_len(file.def.kind) as usize;
+    has_room_beside(num, image, longest, file.records.as_slice())
 }

@@ -1,13 +1,13 @@
 //! The records of a file by number, and the room that the records of one block share.
 //! The rules stand in `specs/Room.antt` of the definitions.
 
-ghost use Rattle.std.specs.Prelude.{◌≡◌, ◌<◌, ◌≤◌, ℕ, ◌-◌, ◌^◌, sum_by, min, not, ◌&&◌, ◌==◌, if◌then◌else◌, is_none, true, false, IfSome, IfNone};
+ghost use Rattle.std.specs.Prelude.{◌≡◌, ◌<◌, ◌≤◌, ℕ, ◌-◌, ◌^◌, sum_by, min, not, ◌&&◌, ◌==◌, length, nat_le, if◌then◌else◌, is_none, true, false, IfSome, IfNone};
 ghost use Rattle.ct_definitions.specs.Room.{has_fitting_len, row_at, block_of, use_of, block_use, use_beside, has_room};
 ghost use Rattle.ct_definitions.specs.Reached.{rise_above};
 ghost use Rattle.std.specs.List.{list_all};
 ghost use Rattle.ct_model.specs.Free.{IsFree, IsNotFree, AreFull};
 
-use crate::rows::rows_in;
+use crate::rows::{has_few, rows_in};
 use ct_definitions::{BLOCK_ROOM, Kind, LONGEST_IMAGE, RECORD_OVERHEAD, RECORDS_PER_BLOCK, Row};
 
 // how many blocks the numbers below 2^64 are in
@@ -57,6 +57,22 @@ pub fn has_room(num: u64, image: &[u8], rows: &[Row]) -> bool
     ensures { result ≡ has_room num image.now rows.now }
 {
     use_of(image).saturating_add(used_beside(num, rows)) <= BLOCK_ROOM
+}
+
+/// `has_room` in a file with no image of more than `longest` bytes. What the records use is added up only
+/// where there may be too many of them.
+pub(crate) fn has_room_beside(num: u64, image: &[u8], longest: usize, rows: &[Row]) -> bool
+    requires rising { rise_above 0 rows.now ≡ true }
+    requires short { longest ≤ LONGEST_IMAGE }
+    requires own { length image.now ≤ longest }
+    requires others { list_all (λ row. nat_le (length row.image) longest) rows.now ≡ true }
+    ensures { result ≡ has_room num image.now rows.now }
+{
+    let most = BLOCK_ROOM / (longest as u64 + RECORD_OVERHEAD) - 1;
+    if has_few(num / RECORDS_PER_BLOCK, most as usize, rows) {
+        return true;
+    }
+    has_room(num, image, rows)
 }
 
 // what the records of one block use, or 2^64 - 1 where that is more

@@ -1,7 +1,7 @@
 //! The records of a file, whose numbers rise: finding them by number and by block, and putting one
 //! in, exchanging and taking out. Each is found by halves, and each edit is one of the definitions.
 
-ghost use Rattle.std.specs.Prelude.{◌≡◌, ◌==◌, ◌≤◌, length, nat_lt, nat_le, filter, slice_get, true, None, OnOk, OnErr};
+ghost use Rattle.std.specs.Prelude.{◌≡◌, ◌==◌, ◌≤◌, length, nat_lt, nat_le, filter, slice_get, true, None, IsTrue, OnOk, OnErr};
 ghost use Rattle.std.specs.Option.{option_copied, is_some};
 ghost use Rattle.std.specs.List.{prefix_len};
 ghost use Rattle.ct_definitions.specs.Room.{row_at, image_at, is_image, block_of};
@@ -12,12 +12,26 @@ ghost use Rattle.ct_model.specs.Stored.{own};
 use ct_definitions::{Bytes, RECORDS_PER_BLOCK, Row, Rows};
 use ct_items::NoMemory;
 
+// whether the last record has a lower number, and with it each, as where a record is added behind it
+fn are_below(num: u64, rows: &[Row]) -> bool
+    requires { rise_above 0 rows.now ≡ true }
+    ensures { IsTrue result → prefix_len (λ row. nat_lt row.num num) rows.now ≡ length rows.now }
+{
+    match rows.last() {
+        Some(last) => last.num < num,
+        None => false,
+    }
+}
+
 // how many records have lower numbers
 fn place_of(num: u64, rows: &[Row]) -> usize
     requires { rise_above 0 rows.now ≡ true }
     ensures value { result ≡ prefix_len (λ row. nat_lt row.num num) rows.now }
     ensures bound { result ≤ length rows.now }
 {
+    if are_below(num, rows) {
+        return rows.len();
+    }
     rows.partition_point(
         |row: &Row| -> bool
             ensures { result ≡ nat_lt row.now.num num }
@@ -78,6 +92,17 @@ fn start_of(block: u64, rows: &[Row]) -> usize
     )
 }
 
+// whether the last record stands in the block or a lower one, and with it each
+fn are_up_to(block: u64, rows: &[Row]) -> bool
+    requires { rise_above 0 rows.now ≡ true }
+    ensures { IsTrue result → prefix_len (λ row. nat_le (block_of row.num) block) rows.now ≡ length rows.now }
+{
+    match rows.last() {
+        Some(last) => last.num / RECORDS_PER_BLOCK <= block,
+        None => false,
+    }
+}
+
 // how many records stand in the block or lower ones
 fn end_of(block: u64, rows: &[Row]) -> usize
     requires { rise_above 0 rows.now ≡ true }
@@ -85,6 +110,9 @@ fn end_of(block: u64, rows: &[Row]) -> usize
     ensures start { prefix_len (λ row. nat_lt (block_of row.num) block) rows.now ≤ result }
     ensures bound { result ≤ length rows.now }
 {
+    if are_up_to(block, rows) {
+        return rows.len();
+    }
     rows.partition_point(
         |row: &Row| -> bool
             ensures { result ≡ nat_le (block_of row.now.num) block }
@@ -100,6 +128,21 @@ pub(crate) fn rows_in(block: u64, rows: &[Row]) -> &[Row]
     let start = start_of(block, rows);
     let end = end_of(block, rows);
     &rows[start..end]
+}
+
+/// Whether it is seen at once that the block has at most `most` records.
+pub(crate) fn has_few(block: u64, most: usize, rows: &[Row]) -> bool
+    requires { rise_above 0 rows.now ≡ true }
+    ensures { IsTrue result → length (filter (λ row. block_of row.num == block) rows.now) ≤ most }
+{
+    let end = end_of(block, rows);
+    if end <= most {
+        return true;
+    }
+    match row_there(end - most - 1, rows) {
+        Some(row) => row.num / RECORDS_PER_BLOCK < block,
+        None => false,
+    }
 }
 
 // whether the record of the number stands at the place

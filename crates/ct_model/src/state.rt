@@ -179,7 +179,7 @@ pub fn lowest_free(state: &State, file: u16, len: usize) -> Option<u64>
 }
 
 /// Whether another record of the file has a key of the image in a unique index.
-/// It takes no memory.
+/// It answers without memory, too.
 pub fn has_taken_key(alloc: Global, state: &State, file: u16, num: u64, image: &[u8]) -> bool
     requires file { file < length state.now }
     requires len { takes_len_in (slice_get state.now file) (length image.now) ≡ true }
@@ -191,7 +191,7 @@ pub fn has_taken_key(alloc: Global, state: &State, file: u16, num: u64, image: &
 
 /// Whether the image may stand under the number beside the other records of the file: it has a
 /// length that the file allows, no key in a unique index that another record has, and room.
-/// It takes no memory.
+/// It answers without memory, too.
 pub fn may_stand(alloc: Global, state: &State, file: u16, num: u64, image: &[u8]) -> bool
     requires { file < length state.now }
     ensures { result ≡ passes (slice_get state.now file) (λ f. may_stand f num image.now) }

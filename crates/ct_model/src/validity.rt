@@ -4,6 +4,7 @@
 ghost use Rattle.std.specs.Prelude.{◌≡◌, ◌≤◌, length, nat_le};
 ghost use Rattle.std.specs.List.{list_all};
 ghost use Rattle.ct_definitions.specs.Validity.{is_between, is_name_byte, is_name, takes_len, least_len, is_valid_kind, is_valid_seg, key_len, is_valid_index, has_index, have_own_names, is_valid};
+ghost use Rattle.ct_model.specs.Fitting.{longest_len};
 
 use ct_definitions::{
     FileDef, IndexDef, Kind, LONGEST_IMAGE, LONGEST_KEY, LONGEST_NAME, MOST_INDEXES, MOST_SEGMENTS,
@@ -50,6 +51,15 @@ pub(crate) fn least_len(kind: Kind) -> u32
     match kind {
         Kind::Fixed(len) => len,
         Kind::Variable { min, .. } => min,
+    }
+}
+
+pub(crate) fn longest_len(kind: Kind) -> u32
+    ensures { result ≡ longest_len kind }
+{
+    match kind {
+        Kind::Fixed(len) => len,
+        Kind::Variable { max, .. } => max,
     }
 }
 

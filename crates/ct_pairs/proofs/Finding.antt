@@ -305,14 +305,11 @@ last_up_to-found end range pairs seen last rest between is takes =
     last-is_greatest (range_contains pair_cmp Unbounded end) pairs last rest (subst (λ part. TakesLast deref part last rest) between takes)
     ∙ ap (greatest (λ pair. not (is_past_end pair_cmp end pair))) is
 
-pair_is : (pair : Pair) (key : List ℕ) (num : ℕ) → pair.key ≡ key → pair.num ≡ num → pair ≡ record { key = key; num = num }
-pair_is pair key num is_key is_num = λ i. record { key = is_key i; num = is_num i }
+pub at_or_above-found : (pair : Pair) (key : List ℕ) (pairs : List Pair) → pair ≡ record { key = key; num = 0 } → least (is_from_start pair_cmp (Included pair)) pairs ≡ least (is_at_or_above key) pairs
+at_or_above-found pair key pairs is = ap (λ p. least (is_from_start pair_cmp (Included p)) pairs) is ∙ least-at_or_above key pairs
 
-pub at_or_above-found : (pair : Pair) (key : List ℕ) (pairs : List Pair) → pair.key ≡ key → pair.num ≡ 0 → least (is_from_start pair_cmp (Included pair)) pairs ≡ least (is_at_or_above key) pairs
-at_or_above-found pair key pairs is_key is_num = ap (λ p. least (is_from_start pair_cmp (Included p)) pairs) (pair_is pair key 0 is_key is_num) ∙ least-at_or_above key pairs
-
-pub above-found : (pair : Pair) (key : List ℕ) (own pairs : List Pair) → pair.key ≡ key → pair.num ≡ 18446744073709551615 → own ≡ pairs → have_short_nums own ≡ true → least (is_from_start pair_cmp (Excluded pair)) pairs ≡ least (is_key_above key) pairs
-above-found pair key own pairs is_key is_num is short = ap (λ p. least (is_from_start pair_cmp (Excluded p)) pairs) (pair_is pair key 18446744073709551615 is_key is_num) ∙ least-above key pairs (ap have_short_nums (sym is) ∙ short)
+pub above-found : (pair : Pair) (key : List ℕ) (own pairs : List Pair) → pair ≡ record { key = key; num = 18446744073709551615 } → own ≡ pairs → have_short_nums own ≡ true → least (is_from_start pair_cmp (Excluded pair)) pairs ≡ least (is_key_above key) pairs
+above-found pair key own pairs is_pair is short = ap (λ p. least (is_from_start pair_cmp (Excluded p)) pairs) is_pair ∙ least-above key pairs (ap have_short_nums (sym is) ∙ short)
 
 pub kept-none : (from test : Pair → Bool) (pairs : List Pair) → Begins from test → IsInOrder pairs → None ≡ least from pairs → None ≡ least test pairs
 kept-none from test pairs begins sorted none = sym (find-kept from test begins pairs sorted ∙ ap (kept test) (sym none))

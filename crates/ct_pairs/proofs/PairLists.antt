@@ -77,6 +77,16 @@ list_all-remove_key test gone (x ∷ xs) each =
     by_test first rest kept true = rest
     by_test first rest kept false = and_from (test x) _ first kept
 
+list_all-without : (test : Pair → Bool) (pair : Pair) (pairs : List Pair) → list_all test pairs ≡ true → list_all test (without_pair pair pairs) ≡ true
+list_all-without test pair [] each = refl
+list_all-without test pair (x ∷ xs) each =
+    let parts = and_parts (test x) (list_all test xs) each in
+    by_test parts.0 (list_all-without test pair xs parts.1) (not (is_pair pair x))
+  where
+    by_test : test x ≡ true → list_all test (without_pair pair xs) ≡ true → (here : Bool) → list_all test (cond here (x ∷ without_pair pair xs) (without_pair pair xs)) ≡ true
+    by_test first kept true = and_from (test x) _ first kept
+    by_test first kept false = kept
+
 -- numbers stay short where a pair is put, or is not for want of memory
 pub short-put : {X E : Type 0} (result : Result X E) (pair : Pair) (old new : List Pair) → nat_lt pair.num (2 ^ 64) ≡ true → OnOk result (new ≡ insert_key pair_cmp old pair) → OnErr result (new ≡ old) → have_short_nums old ≡ true → have_short_nums new ≡ true
 short-put (Ok x) pair old new own put kept each = ap have_short_nums put ∙ list_all-insert_key _ pair old own each
@@ -93,3 +103,10 @@ short num same is fits = rw (← is) (lt-ltb same (2 ^ 64) fits)
 -- what an ordered set makes of a pair that is not there
 pub put-new : (pair : Pair) (old seen new : List Pair) → old ≡ seen → has_pair pair seen ≡ false → new ≡ insert_key pair_cmp old pair → new ≡ with_pair pair seen
 put-new pair old seen new is absent put = put ∙ ap (λ pairs. insert_key pair_cmp pairs pair) is ∙ insert_key-new pair seen absent
+
+-- the others than a pair, and that numbers among them stay short
+pub others : (pair : Pair) (old seen new : List Pair) → old ≡ seen → new ≡ without_pair pair old → new ≡ without_pair pair seen
+others pair old seen new same kept = kept ∙ ap (without_pair pair) same
+
+pub short-others : (pair : Pair) (old new : List Pair) → new ≡ without_pair pair old → have_short_nums old ≡ true → have_short_nums new ≡ true
+short-others pair old new kept each = ap have_short_nums kept ∙ list_all-without _ pair old each

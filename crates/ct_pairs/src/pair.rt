@@ -1,34 +1,49 @@
 //! `Pair`, a key and the number of the record that has it.
 //! Pairs are compared by key, byte by byte, and then by number.
 
-ghost use Rattle.std.specs.Prelude.{◌≡◌};
+ghost use Rattle.std.specs.Prelude.{◌≡◌, ◌≤◌, length, IsOk, IfOk};
+ghost use Rattle.ct_pairs.specs.Finds.{is_pair};
 
-use ct_key::KeyBuf;
+use ct_items::NoMemory;
+use ct_key::{compare_by_fronts, compare_bytes, front_number};
+use smallvec::SmallVec;
+use std::alloc::Global;
 use std::cmp::Ordering;
 use std::marker::Model;
 
-/// A key, and the number of the record that has it. A key of at most 128 bytes takes no memory.
+/// How many bytes of a key stand in the pair itself.
+const INLINE: usize = 16;
+
+/// A key, and the number of the record that has it. A key of at most 16 bytes takes no memory.
 #[derive(Debug, Drop)]
 pub struct Pair {
-    key: KeyBuf,
+    /// The number that the key's first eight bytes give, which decides most comparisons.
+    front: u64,
+    key: SmallVec<u8, INLINE>,
     num: u64,
 }
 
 impl Model for Pair {
+    ghost use Rattle.std.specs.Prelude.{◌≡◌};
     ghost use Rattle.ct_definitions.specs.Pairs.{Pair as Seen};
+    ghost use Rattle.ct_key.specs.Order.{front_number};
 
     ghost Value = { Seen };
 
-    ghost view = { λ pair. record { key = pair.key; num = pair.num } };
+    ghost view = { λ pair. record { key = pair.key.items; num = pair.num } };
+
+    ghost invariant = { λ pair. pair.front ≡ front_number pair.key.items };
 }
 
 impl Pair {
-    /// The pair of a key and a record number.
-    pub fn new(key: KeyBuf, num: u64) -> Pair
-        ensures key { result.key ≡ key }
-        ensures num { result.num ≡ num }
+    /// The pair of a key and a record number. Up to 16 bytes of a key take no memory.
+    pub fn new(alloc: Global, key: &[u8], num: u64) -> Result<Pair, NoMemory>
+        ensures ok { IfOk result (λ pair. pair ≡ record { key = key.now; num = num }) }
+        ensures room { length key.now ≤ INLINE → IsOk result }
     {
-        Pair { key, num }
+        let front = front_number(key);
+        let key = SmallVec::from_slice(alloc, key)?;
+        Ok(Pair { front, key, num })
     }
 
     /// The bytes of the key.
@@ -36,6 +51,15 @@ impl Pair {
         ensures { result.now ≡ self.now.key }
     {
         self.key.as_slice()
+    }
+
+    /// Whether the pair has the key and the number.
+    pub(crate) fn is_of(&self, key: &[u8], num: u64) -> bool
+        ensures { result ≡ is_pair (record { key = key.now; num = num }) self.now }
+    {
+        compare_bytes(key, self.key())
+            .then(num.cmp(&self.num))
+            .is_eq()
     }
 
     /// The number of the record.
@@ -97,6 +121,7 @@ impl Ord for Pair {
     ghost matches_eq = { λ _ _. refl };
 
     fn cmp(&self, other: &Pair) -> Ordering {
-        self.key.cmp(&other.key).then(self.num.cmp(&other.num))
+        let (own, others) = (self.key.as_slice(), other.key.as_slice());
+        compare_by_fronts(self.front, own, other.front, others).then(self.num.cmp(&other.num))
     }
 }

@@ -12,7 +12,6 @@ ghost use Rattle.ct_pairs.specs.Finds.{has_pair, without_pair, has_other_with, f
 use crate::pair::Pair;
 use crate::seek::Seek;
 use ct_items::NoMemory;
-use ct_key::KeyBuf;
 use std::alloc::Global;
 use std::collections::BTreeSet;
 use std::marker::Model;
@@ -78,11 +77,30 @@ impl Pairs {
         }
     }
 
-    /// Takes the pair out, where it is among them.
-    pub fn take(&mut self, pair: &Pair)
+    /// Takes the pair of a key and a number out, where it is among them.
+    ///
+    /// For a key of more than 16 bytes all pairs are gone over where there is no memory.
+    pub fn take(&mut self, key: &[u8], num: u64)
+        ensures { self.new ≡ without_pair (record { key = key.now; num = num }) self.old }
+    {
+        match Pair::new(self.alloc, key, num) {
+            Ok(pair) => self.remove(&pair),
+            Err(_) => self.keep_others(key, num),
+        }
+    }
+
+    // Takes the pair out.
+    fn remove(&mut self, pair: &Pair)
         ensures { self.new ≡ without_pair pair.now self.old }
     {
         let _found = self.set.remove(pair);
+    }
+
+    // Takes the pair of a key and a number out, without memory: it goes over all pairs.
+    fn keep_others(&mut self, key: &[u8], num: u64)
+        ensures { self.new ≡ without_pair (record { key = key.now; num = num }) self.old }
+    {
+        self.set.retain(|pair| !pair.is_of(key, num));
     }
 
     /// Whether a pair of another number has the key.
@@ -106,8 +124,8 @@ impl Pairs {
 
     /// The pair that the search looks for, or none where there is none.
     ///
-    /// It takes no memory for keys of at most 128 bytes. For a longer key, which no index has, all
-    /// pairs are gone over where there is no memory.
+    /// It takes no memory for keys of at most 16 bytes. For a longer key all pairs are gone over where
+    /// there is no memory.
     pub fn find(&self, seek: Seek<'_>) -> Option<&Pair>
         ensures { option_copied result ≡ found_pair seek.entry self.now }
     {
@@ -163,8 +181,8 @@ impl Pairs {
         ensures found { option_copied result ≡ least (is_at_or_above key.now) self.now }
         ensures ordered { IsStrictlySortedBy pair_cmp self.now }
     {
-        match KeyBuf::from_slice(self.alloc, key) {
-            Ok(key) => self.first_from(Bound::Included(&Pair::new(key, 0))),
+        match Pair::new(self.alloc, key, 0) {
+            Ok(pair) => self.first_from(Bound::Included(&pair)),
             Err(_) => self.set.iter().find(|pair| key.cmp(&pair.key()).is_le()),
         }
     }
@@ -174,8 +192,8 @@ impl Pairs {
         ensures found { option_copied result ≡ least (is_key_above key.now) self.now }
         ensures ordered { IsStrictlySortedBy pair_cmp self.now }
     {
-        match KeyBuf::from_slice(self.alloc, key) {
-            Ok(key) => self.first_from(Bound::Excluded(&Pair::new(key, u64::MAX))),
+        match Pair::new(self.alloc, key, u64::MAX) {
+            Ok(pair) => self.first_from(Bound::Excluded(&pair)),
             Err(_) => self.set.iter().find(|pair| key.cmp(&pair.key()).is_lt()),
         }
     }

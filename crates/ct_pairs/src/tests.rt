@@ -2,12 +2,11 @@
 
 use crate::{Pair, Pairs, Seek};
 use ct_items::NoMemory;
-use ct_key::KeyBuf;
 use std::alloc::Global;
 use std::test::Fail;
 
 fn pair(alloc: Global, key: &[u8], num: u64) -> Result<Pair, NoMemory> {
-    Ok(Pair::new(KeyBuf::from_slice(alloc, key)?, num))
+    Pair::new(alloc, key, num)
 }
 
 // Puts a pair that is new.
@@ -89,7 +88,7 @@ fn pairs_come_and_go(rt: HostRuntime) -> Result<(), Fail> {
     let two = pair(rt.alloc(), b"A", 2)?;
     assert_eq!(rt; pairs.len(), 3);
     assert_eq!(rt; pairs.contains(&two), true);
-    pairs.take(&two);
+    pairs.take(b"A", 2);
     assert_eq!(rt; pairs.len(), 2);
     assert_eq!(rt; pairs.contains(&two), false);
     assert_eq!(rt; num_of(pairs.find(Seek::Above(b"A"))), None);
@@ -103,5 +102,29 @@ fn others_with_a_key(rt: HostRuntime) -> Result<(), Fail> {
     assert_eq!(rt; pairs.has_other_with(9, b"b"), true);
     assert_eq!(rt; pairs.has_other_with(3, b"b"), false);
     assert_eq!(rt; pairs.has_other_with(9, b"a"), false);
+    Ok(())
+}
+
+// Keys that begin alike for 8, for 16 and for 24 bytes, and one that ends where another has a zero.
+#[test]
+fn long_and_short_keys_stand_by_their_bytes(rt: HostRuntime) -> Result<(), Fail> {
+    let keys: [&[u8]; 5] = [
+        b"12345678",
+        b"12345678\0",
+        b"1234567890123456",
+        b"123456789012345678901234",
+        b"123456789012345678901235",
+    ];
+    let mut pairs = Pairs::new(rt.alloc());
+    for (key, num) in [(4, 5), (1, 2), (3, 4), (0, 1), (2, 3)] {
+        add(&mut pairs, pair(rt.alloc(), keys[key], num)?)?;
+    }
+    assert_eq!(rt; num_of(pairs.find(Seek::Above(keys[0]))), Some(2));
+    assert_eq!(rt; num_of(pairs.find(Seek::Below(keys[2]))), Some(2));
+    assert_eq!(rt; num_of(pairs.find(Seek::Equal(keys[3]))), Some(4));
+    assert_eq!(rt; num_of(pairs.find(Seek::Above(keys[3]))), Some(5));
+    pairs.take(keys[3], 4);
+    assert_eq!(rt; num_of(pairs.find(Seek::AtOrAbove(keys[3]))), Some(5));
+    assert_eq!(rt; pairs.len(), 4);
     Ok(())
 }

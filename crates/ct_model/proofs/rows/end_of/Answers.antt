@@ -1,4 +1,4 @@
-use Rattle.std.proofs.Common.{rules, nat_le}
+use Rattle.std.proofs.Common.{rules, nat_le, arith}
 use Rattle.std.proofs.lemmas.List.Sorted.{IsPartitionPoint-from_clause, IsPartitionedBy-leb}
 use Rattle.ct_definitions.specs.declared.store.Row.{Row}
 use Rattle.ct_definitions.specs.Room.{block_of}
@@ -13,3 +13,6 @@ returns-clause-value c =
 
 pub returns-clause-start : goal.returns-clause-start
 returns-clause-start c = rw (returns-clause-value c) (starts_first c.args.block c.args.rows.now)
+
+pub returns-then-are_up_to-clause-start : goal.returns-then-are_up_to-clause-start
+returns-then-are_up_to-clause-start c = omega (arith, starts_first c.args.block c.args.rows.now, c.if-are_up_to.ensures)

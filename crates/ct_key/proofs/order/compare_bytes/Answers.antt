@@ -1,5 +1,5 @@
 use Rattle.ct_key.proofs.FirstEight.{bytes_below, decided, tied}
-use Rattle.ct_key.proofs.order.order.Goals as goal
+use Rattle.ct_key.proofs.order.compare_bytes.Goals as goal
 
 pub returns-then-first-second : goal.returns-then-first-second
 returns-then-first-second c =

@@ -1,7 +1,7 @@
 use Rattle.std.proofs.Common.{◌∙◌, ap}
 use Rattle.ct_pairs.proofs.PairLists.{remove_key-pair, short-take}
 use Rattle.ct_pairs.specs.Finds.{without_pair}
-use Rattle.ct_pairs.proofs.pairs.Pairs.take.Goals as goal
+use Rattle.ct_pairs.proofs.pairs.Pairs.remove.Goals as goal
 
 pub invariant_of-self : goal.invariant_of-self
 invariant_of-self c =
