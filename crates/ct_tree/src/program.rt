@@ -61,8 +61,8 @@ pub fn turn<N: Nodes>(program: &mut Program, nodes: &mut N) -> Turn<Answer>
 }
 
 /// Whether a stage is the last one.
-fn is_ended(stage: Stage) -> bool
-    ensures { result ≡ is_ended stage }
+fn is_ended(stage: &Stage) -> bool
+    ensures { result ≡ is_ended stage.now }
 {
     match stage {
         Stage::Ended => true,
@@ -88,7 +88,7 @@ fn turn_put<N: Nodes>(put: &mut Put, nodes: &mut N) -> Turn<Answer>
     ensures stepped { Stepped put.old.walk put.new.stage (N.world nodes.old) (N.world nodes.new) }
     ensures happens { IsTrue (N.world nodes.old).founded → (at : Root) (keys : List Pair) → Chain (N.world nodes.old) at keys → (now : List Pair) × Happens at (Puts put.old.walk.at put.old.walk.target) result keys now × Chain (N.world nodes.new) at now }
 {
-    if is_ended(put.stage) {
+    if is_ended(&put.stage) {
         return Turn::More;
     }
     match put.turn(nodes) {
@@ -109,7 +109,7 @@ fn turn_take<N: Nodes>(take: &mut Take, nodes: &mut N) -> Turn<Answer>
     ensures stepped { Stepped take.old.walk take.new.stage (N.world nodes.old) (N.world nodes.new) }
     ensures happens { IsTrue (N.world nodes.old).founded → (at : Root) (keys : List Pair) → Chain (N.world nodes.old) at keys → (now : List Pair) × Happens at (Takes take.old.walk.at take.old.walk.target) result keys now × Chain (N.world nodes.new) at now }
 {
-    if is_ended(take.stage) {
+    if is_ended(&take.stage) {
         return Turn::More;
     }
     match take.turn(nodes) {
@@ -129,7 +129,7 @@ fn turn_search<N: Nodes>(search: &mut Search, nodes: &mut N) -> Turn<Answer>
     ensures stepped { Stepped search.old.walk search.new.stage (N.world nodes.old) (N.world nodes.new) }
     ensures happens { IsTrue (N.world nodes.old).founded → (at : Root) (keys : List Pair) → Chain (N.world nodes.old) at keys → (now : List Pair) × Happens at (Searches search.old.walk.at search.old.walk.target search.old.above) result keys now × Chain (N.world nodes.new) at now }
 {
-    if is_ended(search.stage) {
+    if is_ended(&search.stage) {
         return Turn::More;
     }
     match search.turn(nodes) {

@@ -10,6 +10,7 @@ use ct_disk::Turn;
 use ct_node::{Node, Nodes, Pair, Place, Root, Target};
 use ct_tree_laws::{Stage, Walk};
 use std::alloc::Global;
+use std::mem::replace;
 
 /// Searches an index to the right, in turns. It keeps its latches until `end`.
 #[derive(Drop)]
@@ -52,7 +53,8 @@ impl Search {
         ensures busy { OnBusy result (IsInTheWay (N.flushes nodes.old) (N.world nodes.old) self.old.walk.op) }
         ensures cause { CausedTurn result (N.faults nodes.old) (N.faults nodes.new) (N.halted nodes.old) (N.halted nodes.new) }
     {
-        let step = search_step(self.alloc, &self.walk, self.above, self.stage, nodes);
+        let stage = replace(&mut self.stage, Stage::Ended);
+        let step = search_step(self.alloc, &self.walk, self.above, stage, nodes);
         self.stage = step.0;
         answer_with(step.1, step.2)
     }

@@ -11,7 +11,7 @@ pub struct Walk {
 }
 
 /// How far an operation has come.
-#[derive(Clone, Copy)]
+#[derive(Drop)]
 pub enum Stage {
     /// The root is to be read.
     Start,
