@@ -84,6 +84,12 @@ fn put_step<N: Nodes>(walk: &Walk, mark: Mark, stage: Stage, nodes: &mut N) -> (
         Stage::Cut { page, right } => return cut_left(walk, nodes, page, right),
         Stage::Share { page: _, above: _ } => unreachable!(),
         Stage::Shared { page: _, above: _ } => unreachable!(),
+        Stage::SharedLeft { page: _ } => unreachable!(),
+        Stage::Left {
+            low: _,
+            or_at: _,
+            way: _,
+        } => unreachable!(),
         Stage::Ended => unreachable!(),
     }
 }
