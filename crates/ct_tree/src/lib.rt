@@ -5,6 +5,8 @@ mod begin;
 mod descent;
 mod laws;
 mod left;
+#[cfg(test)]
+mod left_tests;
 mod memory;
 mod program;
 mod put;
