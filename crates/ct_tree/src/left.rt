@@ -1,12 +1,12 @@
 //! Searching to the left: shared latches from the leaf of the target to the leaf of the answer, each
 //! of which is found by a descent of its own to the leaf that ends where the one before begins.
 
-ghost use Rattle.std.specs.Prelude.{◌≡◌, IsTrue, false, true};
+ghost use Rattle.std.specs.Prelude.{◌≡◌, false};
 ghost use Rattle.ct_node.specs.declared.target.Target.TheVariants.{Before};
 ghost use Rattle.ct_node.specs.Places.{next_place};
 ghost use Rattle.ct_node.specs.Turns.{OnBusy, CausedTurn};
 ghost use Rattle.ct_tree_laws.specs.Stands.{Stands, Stepped, KeepsKeys};
-ghost use Rattle.ct_tree.specs.Answers.{is_done, TellsFound, IsInTheWay, IsFinding, IsSearchingLeft, found_left};
+ghost use Rattle.ct_tree.specs.Answers.{is_done, TellsFound, IsInTheWay, IsSearchingLeft, found_left};
 
 use crate::descent::{descend, is_done, start};
 use ct_disk::Turn;
@@ -157,37 +157,15 @@ fn start_left<N: Nodes>(walk: &Walk, or_at: bool, nodes: &mut N, low: Pair) -> (
     ensures busy { OnBusy result.1 (IsInTheWay (N.flushes nodes.old) (N.world nodes.old) walk.now.op) }
     ensures cause { CausedTurn result.1 (N.faults nodes.old) (N.faults nodes.new) (N.halted nodes.old) (N.halted nodes.new) }
 {
+    let way = Way::Start;
     match nodes.root(walk.op, walk.at) {
         Turn::Done(page) => {
             let way = Way::Down { page };
             return (Stage::Left { low, or_at, way }, Turn::More);
         }
-        Turn::More => return (
-            Stage::Left {
-                low,
-                or_at,
-                way: Way::Start,
-            },
-            Turn::More,
-        ),
-        Turn::Busy { op } => return (
-            Stage::Left {
-                low,
-                or_at,
-                way: Way::Start,
-            },
-            Turn::Busy { op },
-        ),
-        Turn::Refused(fault) => {
-            return (
-                Stage::Left {
-                    low,
-                    or_at,
-                    way: Way::Start,
-                },
-                Turn::Refused(fault),
-            );
-        }
+        Turn::More => return (Stage::Left { low, or_at, way }, Turn::More),
+        Turn::Busy { op } => return (Stage::Left { low, or_at, way }, Turn::Busy { op }),
+        Turn::Refused(fault) => return (Stage::Left { low, or_at, way }, Turn::Refused(fault)),
     }
 }
 
