@@ -7,9 +7,10 @@ ghost use Rattle.ct_node.specs.Cells.{pair_at};
 ghost use Rattle.ct_node.specs.Stored.{edge_pair};
 ghost use Rattle.ct_node.specs.Roles.{first_of};
 
-use crate::cells::record_at;
+use crate::cells::{key_at, record_at};
 use crate::pair::Pair;
 use ct_definitions::LONGEST_KEY;
+use std::alloc::Global;
 use std::cmp::Ordering;
 
 /// A pair whose key is as long as the node's keys are.
@@ -32,6 +33,15 @@ impl Edge {
             key,
             num: record_at(bytes, at + key_len),
         }
+    }
+
+    /// The pair itself.
+    pub(crate) fn pair(&self, alloc: Global, key_len: usize) -> Pair
+        requires { key_len ≤ 128 }
+        ensures { result ≡ edge_pair key_len self.now }
+    {
+        let key = key_at(alloc, self.key.as_slice(), 0, key_len);
+        Pair { key, num: self.num }
     }
 
     /// How it compares with another pair.

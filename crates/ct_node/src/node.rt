@@ -172,6 +172,16 @@ impl Node {
         self.key_len
     }
 
+    /// The pair at which it begins, where it is not open to the left. It takes no memory.
+    pub fn low(&self, alloc: Global) -> Option<Pair>
+        ensures { result ≡ self.now.low }
+    {
+        match self.low {
+            Some(low) => Some(low.pair(alloc, self.key_len)),
+            None => None,
+        }
+    }
+
     /// The page to the right, or 0 where there is none.
     pub fn right(&self) -> u64
         ensures { result ≡ self.now.right }

@@ -1,5 +1,5 @@
 -- What is known where a call was done, and where it was not.
-use Rattle.std.proofs.Common.{◌≡◌, ℕ, Bool, true, false, ◌&&◌, eqb, length, Option, None, sym, refl}
+use Rattle.std.proofs.Common.{◌≡◌, ℕ, Bool, true, false, ◌&&◌, eqb, length, Option, None, sym, refl, List, subst, ◌∙◌}
 use Rattle.std.specs.Prelude.{IsTrue, ◌⊎◌}
 use Rattle.std.proofs.lemmas.Bool.{false≢true, true≢false, and_from, and_parts, eq-eqb, eqb-true}
 use Rattle.ct_latch.specs.declared.hold.Hold.{Hold}
@@ -13,10 +13,13 @@ use Rattle.ct_node.specs.declared.root.Mark.{Mark}
 use Rattle.ct_tree_laws.specs.declared.walk.Walk.{Walk}
 use Rattle.ct_tree_laws.specs.declared.walk.Stage.{Stage}
 use Rattle.ct_tree_laws.specs.declared.walk.Stage.TheVariants as stage
-use Rattle.ct_tree_laws.specs.Stands.{KeepsKeys, Stands, Stepped, HasNone}
+use Rattle.ct_tree_laws.specs.Stands.{KeepsKeys, Stands, Stepped, HasNone, StandsIn}
 use Rattle.ct_tree_laws.proofs.SearchTurns.{ended_none}
 use Rattle.ct_node.specs.Turns.{OnDone, OnBusy, After, LatchedBy, CausedTurn, Bears}
-use Rattle.ct_tree.specs.Answers.{is_done, is_for, PutsKeys, IsPutting, GoesOn, answer_with, TakeGoesOn, TakesKeys, TakenKeys, TellsTaken, IsTaken, TellsFound, IsFound, IsTaking, IsFinding, IsSearching, IsSeeking, BearsPut, BearsTake, BearsTaken}
+use Rattle.ct_tree.specs.Answers.{is_done, is_for, PutsKeys, IsPutting, GoesOn, answer_with, TakeGoesOn, TakesKeys, TakenKeys, TellsTaken, IsTaken, TellsFound, IsFound, IsTaking, IsFinding, IsSearching, IsSeeking, BearsPut, BearsTake, BearsTaken, IsSearchingLeft, IsSearchingBy}
+use Rattle.ct_node.specs.declared.target.Target.{Target}
+use Rattle.ct_tree.specs.declared.seek.Seek.{Seek}
+use Rattle.ct_tree.specs.declared.seek.Seek.TheVariants.{AtOrAbove, Above, AtOrBelow, Below}
 
 pub when_done : (turn : Turn (Unit {0})) (P : Unit {0} → Type 0) → is_done turn ≡ true → OnDone turn P → P tt
 when_done (Done answer) P done is = is
@@ -102,11 +105,11 @@ taken_with walk More told w is = is
 taken_with walk (Busy op) told w is = is
 taken_with walk (Refused fault) told w is = is
 
-pub found_with : (walk : Walk) (above : Bool) (turn : Turn (Unit {0})) (told : Option Pair) (w : World) → TellsFound walk above turn told w → IsFound walk above (answer_with turn told) w
-found_with walk above (Done answer) told w is = is
-found_with walk above More told w is = is
-found_with walk above (Busy op) told w is = is
-found_with walk above (Refused fault) told w is = is
+pub found_with : (walk : Walk) (found_at : Target → List Pair → Option Pair) (turn : Turn (Unit {0})) (told : Option Pair) (w : World) → TellsFound walk found_at turn told w → IsFound walk found_at (answer_with turn told) w
+found_with walk found_at (Done answer) told w is = is
+found_with walk found_at More told w is = is
+found_with walk found_at (Busy op) told w is = is
+found_with walk found_at (Refused fault) told w is = is
 
 -- a turn that goes on takes nothing, finds nothing and has not ended
 pub takes_going : (walk : Walk) (turn : Turn (Unit {0})) (w now : World) → is_done turn ≡ false → KeepsKeys w now → TakesKeys walk turn w now
@@ -121,11 +124,11 @@ taken_going walk More told w going = tt
 taken_going walk (Busy op) told w going = tt
 taken_going walk (Refused fault) told w going = tt
 
-pub found_going : (walk : Walk) (above : Bool) (turn : Turn (Unit {0})) (told : Option Pair) (w : World) → is_done turn ≡ false → TellsFound walk above turn told w
-found_going walk above (Done answer) told w going = absurd (true≢false going)
-found_going walk above More told w going = tt
-found_going walk above (Busy op) told w going = tt
-found_going walk above (Refused fault) told w going = tt
+pub found_going : (walk : Walk) (found_at : Target → List Pair → Option Pair) (turn : Turn (Unit {0})) (told : Option Pair) (w : World) → is_done turn ≡ false → TellsFound walk found_at turn told w
+found_going walk found_at (Done answer) told w going = absurd (true≢false going)
+found_going walk found_at More told w going = tt
+found_going walk found_at (Busy op) told w going = tt
+found_going walk found_at (Refused fault) told w going = tt
 
 pub take_goes_going : (turn : Turn (Unit {0})) (to : Stage) → is_done turn ≡ false → IsTaking to → TakeGoesOn turn to
 take_goes_going (Done answer) to going is = absurd (true≢false going)
@@ -144,6 +147,8 @@ finding_from (stage.Split page right) is other = is
 finding_from (stage.Cut page right) is other = is
 finding_from (stage.Share page above) is other = is
 finding_from (stage.Shared page above) is other = is
+finding_from (stage.SharedLeft page) is other = is
+finding_from (stage.Left low or_at on) is other = is
 finding_from stage.Ended is other = is
 
 pub seeking_from : (above : Bool) (at : Stage) → IsSearching above at → ((page : ℕ) (over : Bool) → at ≡ stage.Shared page over → ⊥) → IsSeeking above at
@@ -156,20 +161,80 @@ seeking_from above (stage.Split page right) is other = is
 seeking_from above (stage.Cut page right) is other = is
 seeking_from above (stage.Share page over) is other = is
 seeking_from above (stage.Shared page over) is other = other page over refl
+seeking_from above (stage.SharedLeft page) is other = is
+seeking_from above (stage.Left low or_at on) is other = is
 seeking_from above stage.Ended is other = is
 
 -- a search has no page that is written and reached by no link
-pub search_tidy : (walk : Walk) (above : Bool) (at : Stage) (w : World) → IsSearching above at → Stands walk at w → IsTrue w.founded → IsTidy walk.op w
-search_tidy walk above stage.Start w is stands founded = (stands founded).place.0
-search_tidy walk above (stage.Down page) w is stands founded = (stands founded).place.0
-search_tidy walk above (stage.Leaf page) w is stands founded = (stands founded).place.0
-search_tidy walk above (stage.Held page) w is stands founded = absurd is
-search_tidy walk above (stage.Full page) w is stands founded = absurd is
-search_tidy walk above (stage.Split page right) w is stands founded = absurd is
-search_tidy walk above (stage.Cut page right) w is stands founded = absurd is
-search_tidy walk above (stage.Share page over) w is stands founded = (stands founded).place.0
-search_tidy walk above (stage.Shared page over) w is stands founded = (stands founded).place.0
-search_tidy walk above stage.Ended w is stands founded = absurd is
+pub search_tidy : (walk : Walk) (above : Bool) (at : Stage) (w : World) → IsSearching above at → StandsIn walk at w → IsTidy walk.op w
+search_tidy walk above stage.Start w is here = here.place.0
+search_tidy walk above (stage.Down page) w is here = here.place.0
+search_tidy walk above (stage.Leaf page) w is here = here.place.0
+search_tidy walk above (stage.Held page) w is here = absurd is
+search_tidy walk above (stage.Full page) w is here = absurd is
+search_tidy walk above (stage.Split page right) w is here = absurd is
+search_tidy walk above (stage.Cut page right) w is here = absurd is
+search_tidy walk above (stage.Share page over) w is here = here.place.0
+search_tidy walk above (stage.Shared page over) w is here = here.place.0
+search_tidy walk above (stage.SharedLeft page) w is here = absurd is
+search_tidy walk above (stage.Left low or_at on) w is here = absurd is
+search_tidy walk above stage.Ended w is here = absurd is
+
+pub left_tidy : (walk : Walk) (or_at : Bool) (at : Stage) (w : World) → IsSearchingLeft or_at at → StandsIn walk at w → IsTidy walk.op w
+left_tidy walk or_at stage.Start w is here = here.place.0
+left_tidy walk or_at (stage.Down page) w is here = here.place.0
+left_tidy walk or_at (stage.Leaf page) w is here = here.place.0
+left_tidy walk or_at (stage.Held page) w is here = absurd is
+left_tidy walk or_at (stage.Full page) w is here = absurd is
+left_tidy walk or_at (stage.Split page right) w is here = absurd is
+left_tidy walk or_at (stage.Cut page right) w is here = absurd is
+left_tidy walk or_at (stage.Share page above) w is here = absurd is
+left_tidy walk or_at (stage.Shared page above) w is here = absurd is
+left_tidy walk or_at (stage.SharedLeft page) w is here = here.place.0
+left_tidy walk or_at (stage.Left low over on) w is here = here.place.0
+left_tidy walk or_at stage.Ended w is here = absurd is
+
+pub tidy_by : (walk : Walk) (seek : Seek) (at : Stage) (w : World) → IsSearchingBy seek at → StandsIn walk at w → IsTidy walk.op w
+tidy_by walk AtOrAbove at w is = search_tidy walk false at w is
+tidy_by walk Above at w is = search_tidy walk true at w is
+tidy_by walk AtOrBelow at w is = left_tidy walk true at w is
+tidy_by walk Below at w is = left_tidy walk false at w is
+
+pub seek_tidy : (walk : Walk) (seek : Seek) (at : Stage) (w : World) → IsSearchingBy seek at → Stands walk at w → IsTrue w.founded → IsTidy walk.op w
+seek_tidy walk seek at w is stands founded = tidy_by walk seek at w is (stands founded)
+
+-- a search that begins, by its kind
+pub seek_start : (seek : Seek) → IsSearchingBy seek stage.Start
+seek_start AtOrAbove = tt
+seek_start Above = tt
+seek_start AtOrBelow = tt
+seek_start Below = tt
+
+-- a stage on the way to the leaf of the target is one of a search to the left
+pub left_finding : (or_at : Bool) (at : Stage) → IsFinding at → IsSearchingLeft or_at at
+left_finding or_at stage.Start is = tt
+left_finding or_at (stage.Down page) is = tt
+left_finding or_at (stage.Leaf page) is = tt
+left_finding or_at (stage.Held page) is = absurd is
+left_finding or_at (stage.Full page) is = absurd is
+left_finding or_at (stage.Split page right) is = absurd is
+left_finding or_at (stage.Cut page right) is = absurd is
+left_finding or_at (stage.Share page above) is = absurd is
+left_finding or_at (stage.Shared page above) is = absurd is
+left_finding or_at (stage.SharedLeft page) is = absurd is
+left_finding or_at (stage.Left low over on) is = absurd is
+left_finding or_at stage.Ended is = absurd is
+
+-- what holds after one call and after the next
+pub stepped_on : (walk : Walk) (first to : Stage) (w mid now : World) → Stepped walk first w mid → Stepped walk to mid now → Stepped walk to w now
+stepped_on walk first to w mid now one next = record { stands = next.stands; keeps = λ other stage differ stands. next.keeps other stage differ (one.keeps other stage differ stands); founded = next.founded ∙ one.founded }
+
+pub keys_on : (w mid now : World) → mid.founded ≡ w.founded → KeepsKeys w mid → KeepsKeys mid now → KeepsKeys w now
+keys_on w mid now same one next founded at keys chain = next (same ∙ founded) at keys (one founded at keys chain)
+
+-- what is known of a turn whose faults and halt stay in the next call
+pub caused_on : (turn : Turn (Unit {0})) (told : Option Pair) (before mid after : ℕ) (halted kept halts : Option HaltCause) → CausedTurn turn before mid halted kept → after ≡ mid → halts ≡ kept → CausedTurn (answer_with turn told) before after halted halts
+caused_on turn told before mid after halted kept halts caused same also = caused_with turn told before after halted halts (subst (λ n. CausedTurn turn before n halted halts) (sym same) (subst (CausedTurn turn before mid halted) (sym also) caused))
 
 -- an operation that is done has given all its latches back
 pub given_back : {T : Type 0} (walk : Walk) (turn : Turn (Unit {0})) (told : T) (to : Stage) (w now : World) → TakeGoesOn turn to → Stepped walk to w now → OnDone (answer_with turn told) (λ _. IsTrue w.founded → HasNone walk.op now)

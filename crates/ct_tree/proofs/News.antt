@@ -20,8 +20,9 @@ use Rattle.ct_tree.specs.declared.search.Search.{Search}
 use Rattle.ct_tree.specs.declared.program.Program.TheVariants as program
 use Rattle.ct_tree.specs.declared.program.Program.{Program}
 use Rattle.ct_tree.specs.declared.program.Happened.{Happened}
-use Rattle.ct_tree.specs.Answers.{IsPair, IsPutting, IsSearching}
+use Rattle.ct_tree.specs.Answers.{IsPair, IsPutting, IsSearching, IsSearchingBy}
 use Rattle.ct_tree.specs.Schedules.{Task, Runs, walk_of, stage_of, op_of, IsReady, IsNew, AllStand, HaveOwnNumbers}
+use Rattle.ct_tree.proofs.Done.{seek_start}
 
 pub new_all_stand : (key_len : ℕ) (programs : List Program) (w : World) → 1 ≤ key_len → key_len ≤ 128 → w ≡ new_world key_len → All (IsNew key_len) programs → AllStand programs w
 new_all_stand key_len programs w some short is all =
@@ -74,6 +75,6 @@ pub new_search : (search : Search) (key_len op : ℕ) → search.walk ≡ record
 new_search search key_len op walk starts = record {
   at = ap (λ (w : Walk). w.at) walk;
   starts = starts;
-  ready = inl (subst (IsSearching search.above) (sym starts) tt);
+  ready = inl (subst (IsSearchingBy search.seek) (sym starts) (seek_start search.seek));
   key = λ other is. absurd (let no : First ≡ At other = sym (ap (λ (w : Walk). w.target) walk) ∙ is in cc);
 }

@@ -11,8 +11,9 @@ use Rattle.ct_tree_laws.specs.declared.walk.Stage.TheVariants as stage
 use Rattle.ct_tree_laws.specs.Trees.{Chain}
 use Rattle.ct_tree_laws.specs.Stands.{KeepsKeys, ChangesKeys, is_same_root}
 use Rattle.ct_tree_laws.proofs.Keys.{same_root}
-use Rattle.ct_tree.specs.Answers.{put_at, take_at, has_at, found_right}
+use Rattle.ct_tree.specs.Answers.{put_at, take_at, has_at, found_right, found_by}
 use Rattle.ct_tree.specs.Schedules.{Task, is_ended}
+use Rattle.ct_tree.specs.declared.seek.Seek.{Seek}
 
 pub stage_ended : (at : Stage) → is_ended at ≡ true → at ≡ stage.Ended
 stage_ended stage.Start is = absurd (false≢true is)
@@ -24,6 +25,8 @@ stage_ended (stage.Split page right) is = absurd (false≢true is)
 stage_ended (stage.Cut page right) is = absurd (false≢true is)
 stage_ended (stage.Share page above) is = absurd (false≢true is)
 stage_ended (stage.Shared page above) is = absurd (false≢true is)
+stage_ended (stage.SharedLeft page) is = absurd (false≢true is)
+stage_ended (stage.Left low or_at on) is = absurd (false≢true is)
 stage_ended stage.Ended is = refl
 
 -- one of the two, where the stage is not the last
@@ -41,8 +44,8 @@ pub take_ends : (walk : Walk) (found : Bool) (w now : World) → ChangesKeys wal
 take_ends walk found w now changes told founded at keys chain =
     (cond (is_same_root at walk.at) (take_at walk.target keys) keys, (refl, λ same. told founded keys (subst (λ root. Chain w root keys) (same_root at walk.at same) chain)), changes founded at keys chain)
 
-pub search_ends : (walk : Walk) (above : Bool) (found : Option Pair) (w now : World) → KeepsKeys w now → (IsTrue w.founded → (keys : List Pair) → Chain w walk.at keys → found ≡ found_right above walk.target keys) → IsTrue w.founded → (at : Root) (keys : List Pair) → Chain w at keys → (later : List Pair) × ((later ≡ keys) × (is_same_root at walk.at ≡ true → found ≡ found_right above walk.target keys)) × Chain now at later
-search_ends walk above found w now keeps told founded at keys chain =
+pub search_ends : (walk : Walk) (seek : Seek) (found : Option Pair) (w now : World) → KeepsKeys w now → (IsTrue w.founded → (keys : List Pair) → Chain w walk.at keys → found ≡ found_by seek walk.target keys) → IsTrue w.founded → (at : Root) (keys : List Pair) → Chain w at keys → (later : List Pair) × ((later ≡ keys) × (is_same_root at walk.at ≡ true → found ≡ found_by seek walk.target keys)) × Chain now at later
+search_ends walk seek found w now keeps told founded at keys chain =
     (keys, (refl, λ same. told founded keys (subst (λ root. Chain w root keys) (same_root at walk.at same) chain)), keeps founded at keys chain)
 
 pub same_goes : (w : World) → IsTrue w.founded → (at : Root) (keys : List Pair) → Chain w at keys → (later : List Pair) × (later ≡ keys) × Chain w at later

@@ -1,5 +1,5 @@
 -- What a turn's answer says of the pairs, and of who is in the way.
-use Rattle.std.specs.Prelude.{◌≡◌, ℕ, Bool, true, false, List, Option, Some, find, ◌⊎◌, ◌&&◌, ◌==◌, not, length, IsTrue, if◌then◌else◌}
+use Rattle.std.specs.Prelude.{◌≡◌, ℕ, Bool, true, false, List, Option, Some, find, ◌⊎◌, ◌&&◌, ◌==◌, not, length, IsTrue, if◌then◌else◌, reverse}
 use Rattle.ct_disk.specs.declared.turn.Turn.{Turn}
 use Rattle.ct_disk.specs.declared.turn.Turn.TheVariants.{Done, More, Busy, Refused}
 use Rattle.ct_latch.specs.declared.hold.Hold.{Hold}
@@ -16,6 +16,8 @@ use Rattle.ct_tree_laws.specs.declared.walk.Stage.{Stage}
 use Rattle.ct_tree_laws.specs.declared.walk.Stage.TheVariants as stage
 use Rattle.ct_tree_laws.specs.Trees.{Chain}
 use Rattle.ct_tree_laws.specs.Stands.{KeepsKeys, ChangesKeys, added, without}
+use Rattle.ct_tree.specs.declared.seek.Seek.{Seek}
+use Rattle.ct_tree.specs.declared.seek.Seek.TheVariants.{AtOrAbove, Above, AtOrBelow, Below}
 
 -- whether a turn has ended its call
 abbrev pub is_done : Turn (Unit {0}) → Bool
@@ -84,12 +86,23 @@ TellsTaken walk (Refused fault) found w = Unit {0}
 abbrev pub found_right : Bool → Target → List Pair → Option Pair
 found_right above target keys = find (λ pair. not (is_ahead above target pair)) keys
 
+-- the last pair below a target; where `or_at` is set, at it or below it
+abbrev pub found_left : Bool → Target → List Pair → Option Pair
+found_left or_at target keys = find (is_ahead or_at target) (reverse keys)
+
+-- the pair that a search is for, by its place beside the target
+abbrev pub found_by : Seek → Target → List Pair → Option Pair
+found_by AtOrAbove target keys = found_right false target keys
+found_by Above target keys = found_right true target keys
+found_by AtOrBelow target keys = found_left true target keys
+found_by Below target keys = found_left false target keys
+
 -- the turn that ends a search tells what is found among the pairs as they stand at it
-abbrev pub TellsFound : Walk → Bool → Turn (Unit {0}) → Option Pair → World → Type 0
-TellsFound walk above (Done answer) found w = IsTrue w.founded → (keys : List Pair) → Chain w walk.at keys → found ≡ found_right above walk.target keys
-TellsFound walk above More found w = Unit {0}
-TellsFound walk above (Busy op) found w = Unit {0}
-TellsFound walk above (Refused fault) found w = Unit {0}
+abbrev pub TellsFound : Walk → (Target → List Pair → Option Pair) → Turn (Unit {0}) → Option Pair → World → Type 0
+TellsFound walk found_at (Done answer) found w = IsTrue w.founded → (keys : List Pair) → Chain w walk.at keys → found ≡ found_at walk.target keys
+TellsFound walk found_at More found w = Unit {0}
+TellsFound walk found_at (Busy op) found w = Unit {0}
+TellsFound walk found_at (Refused fault) found w = Unit {0}
 
 -- the stages of a put or take that has not ended
 abbrev pub IsPutting : Stage → Type 0
@@ -102,6 +115,8 @@ IsPutting (stage.Split page right) = Unit {0}
 IsPutting (stage.Cut page right) = Unit {0}
 IsPutting (stage.Share page above) = ⊥
 IsPutting (stage.Shared page above) = ⊥
+IsPutting (stage.SharedLeft page) = ⊥
+IsPutting (stage.Left low or_at way) = ⊥
 IsPutting stage.Ended = ⊥
 
 -- a put or take has ended exactly where its turn says so
@@ -111,7 +126,7 @@ GoesOn More to = IsPutting to
 GoesOn (Busy op) to = IsPutting to
 GoesOn (Refused fault) to = IsPutting to
 
--- the stages of a search that has not ended
+-- the stages of a search to the right that has not ended
 abbrev pub IsSearching : Bool → Stage → Type 0
 IsSearching above stage.Start = Unit {0}
 IsSearching above (stage.Down page) = Unit {0}
@@ -122,7 +137,31 @@ IsSearching above (stage.Split page right) = ⊥
 IsSearching above (stage.Cut page right) = ⊥
 IsSearching above (stage.Share page over) = over ≡ above
 IsSearching above (stage.Shared page over) = over ≡ above
+IsSearching above (stage.SharedLeft page) = ⊥
+IsSearching above (stage.Left low or_at way) = ⊥
 IsSearching above stage.Ended = ⊥
+
+-- the stages of a search to the left that has not ended
+abbrev pub IsSearchingLeft : Bool → Stage → Type 0
+IsSearchingLeft or_at stage.Start = Unit {0}
+IsSearchingLeft or_at (stage.Down page) = Unit {0}
+IsSearchingLeft or_at (stage.Leaf page) = Unit {0}
+IsSearchingLeft or_at (stage.Held page) = ⊥
+IsSearchingLeft or_at (stage.Full page) = ⊥
+IsSearchingLeft or_at (stage.Split page right) = ⊥
+IsSearchingLeft or_at (stage.Cut page right) = ⊥
+IsSearchingLeft or_at (stage.Share page above) = ⊥
+IsSearchingLeft or_at (stage.Shared page above) = ⊥
+IsSearchingLeft or_at (stage.SharedLeft page) = Unit {0}
+IsSearchingLeft or_at (stage.Left low over way) = over ≡ or_at
+IsSearchingLeft or_at stage.Ended = ⊥
+
+-- the stages of a search that has not ended
+abbrev pub IsSearchingBy : Seek → Stage → Type 0
+IsSearchingBy AtOrAbove at = IsSearching false at
+IsSearchingBy Above at = IsSearching true at
+IsSearchingBy AtOrBelow at = IsSearchingLeft true at
+IsSearchingBy Below at = IsSearchingLeft false at
 
 -- the answer of a turn, with what a call that has ended tells
 abbrev pub answer_with : {T : Type 0} → Turn (Unit {0}) → T → Turn T
@@ -142,6 +181,8 @@ IsFinding (stage.Split page right) = ⊥
 IsFinding (stage.Cut page right) = ⊥
 IsFinding (stage.Share page above) = ⊥
 IsFinding (stage.Shared page above) = ⊥
+IsFinding (stage.SharedLeft page) = ⊥
+IsFinding (stage.Left low or_at way) = ⊥
 IsFinding stage.Ended = ⊥
 
 -- the stages of a take that has not ended
@@ -155,6 +196,8 @@ IsTaking (stage.Split page right) = ⊥
 IsTaking (stage.Cut page right) = ⊥
 IsTaking (stage.Share page above) = ⊥
 IsTaking (stage.Shared page above) = ⊥
+IsTaking (stage.SharedLeft page) = ⊥
+IsTaking (stage.Left low or_at way) = ⊥
 IsTaking stage.Ended = ⊥
 
 -- a take has ended exactly where its turn says so
@@ -178,11 +221,11 @@ IsTaken walk (Busy op) w = Unit {0}
 IsTaken walk (Refused fault) w = Unit {0}
 
 -- the turn that ends a search finds its pair among those that stand at it
-abbrev pub IsFound : Walk → Bool → Turn (Option Pair) → World → Type 0
-IsFound walk above (Done found) w = IsTrue w.founded → (keys : List Pair) → Chain w walk.at keys → found ≡ found_right above walk.target keys
-IsFound walk above More w = Unit {0}
-IsFound walk above (Busy op) w = Unit {0}
-IsFound walk above (Refused fault) w = Unit {0}
+abbrev pub IsFound : Walk → (Target → List Pair → Option Pair) → Turn (Option Pair) → World → Type 0
+IsFound walk found_at (Done found) w = IsTrue w.founded → (keys : List Pair) → Chain w walk.at keys → found ≡ found_at walk.target keys
+IsFound walk found_at More w = Unit {0}
+IsFound walk found_at (Busy op) w = Unit {0}
+IsFound walk found_at (Refused fault) w = Unit {0}
 
 -- the stages of a search that has no leaf to look at
 abbrev pub IsSeeking : Bool → Stage → Type 0
@@ -195,6 +238,8 @@ IsSeeking above (stage.Split page right) = ⊥
 IsSeeking above (stage.Cut page right) = ⊥
 IsSeeking above (stage.Share page over) = over ≡ above
 IsSeeking above (stage.Shared page over) = ⊥
+IsSeeking above (stage.SharedLeft page) = ⊥
+IsSeeking above (stage.Left low or_at way) = ⊥
 IsSeeking above stage.Ended = ⊥
 
 -- the edit that puts a pair bears the put's mark: where the pair is there already no edit is made; no other edit of a put bears a mark

@@ -17,13 +17,14 @@ use Rattle.ct_tree.specs.declared.program.Program.TheVariants as program
 use Rattle.ct_tree.specs.declared.program.Answer.{Answer}
 use Rattle.ct_tree.specs.declared.program.Answer.TheVariants as answer
 use Rattle.ct_tree.specs.declared.program.Happened.{Happened}
-use Rattle.ct_tree.specs.Answers.{IsPair, put_at, take_at, has_at, found_right, IsPutting, IsTaking, IsSearching}
+use Rattle.ct_tree.specs.Answers.{IsPair, put_at, take_at, has_at, found_right, IsPutting, IsTaking, IsSearching, found_by, IsSearchingBy}
+use Rattle.ct_tree.specs.declared.seek.Seek.{Seek}
 
 -- what an operation is to do
 pub data Task : Type 0 where
   Puts : Root → Target → Task
   Takes : Root → Target → Task
-  Searches : Root → Target → Bool → Task
+  Searches : Root → Target → Seek → Task
 
 abbrev pub walk_of : Program → Walk
 walk_of (program.Put put) = put.walk
@@ -38,19 +39,19 @@ stage_of (program.Search search) = search.stage
 abbrev pub task_of : Program → Task
 task_of (program.Put put) = Puts put.walk.at put.walk.target
 task_of (program.Take take) = Takes take.walk.at take.walk.target
-task_of (program.Search search) = Searches search.walk.at search.walk.target search.above
+task_of (program.Search search) = Searches search.walk.at search.walk.target search.seek
 
 -- an operation is at a stage of its kind, and a put or take has a pair
 abbrev pub IsReady : Program → Type 0
 IsReady (program.Put put) = IsPair put.walk.target × (IsPutting put.stage ⊎ (put.stage ≡ stage.Ended))
 IsReady (program.Take take) = IsPair take.walk.target × (IsTaking take.stage ⊎ (take.stage ≡ stage.Ended))
-IsReady (program.Search search) = IsSearching search.above search.stage ⊎ (search.stage ≡ stage.Ended)
+IsReady (program.Search search) = IsSearchingBy search.seek search.stage ⊎ (search.stage ≡ stage.Ended)
 
 -- what a turn that ends a task does to the pairs of an index, and what it tells of them
 abbrev pub Ends : Root → Task → Answer → List Pair → List Pair → Type 0
 Ends at (Puts root target) answer.Put keys now = now ≡ (if is_same_root at root then put_at target keys else keys)
 Ends at (Takes root target) (answer.Taken found) keys now = (now ≡ (if is_same_root at root then take_at target keys else keys)) × (is_same_root at root ≡ true → found ≡ has_at target keys)
-Ends at (Searches root target above) (answer.Found found) keys now = (now ≡ keys) × (is_same_root at root ≡ true → found ≡ found_right above target keys)
+Ends at (Searches root target seek) (answer.Found found) keys now = (now ≡ keys) × (is_same_root at root ≡ true → found ≡ found_by seek target keys)
 Ends at task told keys now = ⊥
 
 -- what a turn does: only the one that ends a task changes a pair
@@ -71,6 +72,8 @@ is_ended (stage.Split page right) = false
 is_ended (stage.Cut page right) = false
 is_ended (stage.Share page above) = false
 is_ended (stage.Shared page above) = false
+is_ended (stage.SharedLeft page) = false
+is_ended (stage.Left low or_at way) = false
 is_ended stage.Ended = true
 
 -- all that these operations remember stands

@@ -30,6 +30,7 @@ pub(crate) fn start<N: Nodes>(walk: &Walk, nodes: &mut N) -> (Stage, Turn<()>)
     ensures putting { IsPutting result.0 }
     ensures taking { IsTaking result.0 }
     ensures searching { (above : _) → IsSearching above result.0 }
+    ensures finding { IsFinding result.0 }
     ensures bears { N.marked nodes.new ≡ N.marked nodes.old }
     ensures busy { OnBusy result.1 (IsInTheWay (N.flushes nodes.old) (N.world nodes.old) walk.now.op) }
     ensures cause { CausedTurn result.1 (N.faults nodes.old) (N.faults nodes.new) (N.halted nodes.old) (N.halted nodes.new) }
@@ -51,6 +52,7 @@ pub(crate) fn descend<N: Nodes>(walk: &Walk, nodes: &mut N, page: u64) -> (Stage
     ensures putting { IsPutting result.0 }
     ensures taking { IsTaking result.0 }
     ensures searching { (above : _) → IsSearching above result.0 }
+    ensures finding { IsFinding result.0 }
     ensures bears { N.marked nodes.new ≡ N.marked nodes.old }
     ensures busy { OnBusy result.1 (IsInTheWay (N.flushes nodes.old) (N.world nodes.old) walk.now.op) }
     ensures cause { CausedTurn result.1 (N.faults nodes.old) (N.faults nodes.new) (N.halted nodes.old) (N.halted nodes.new) }
@@ -121,6 +123,12 @@ pub(crate) fn find_leaf<N: Nodes>(walk: &Walk, stage: Stage, nodes: &mut N) -> (
         Stage::Cut { page: _, right: _ } => unreachable!(),
         Stage::Share { page: _, above: _ } => unreachable!(),
         Stage::Shared { page: _, above: _ } => unreachable!(),
+        Stage::SharedLeft { page: _ } => unreachable!(),
+        Stage::Left {
+            low: _,
+            or_at: _,
+            way: _,
+        } => unreachable!(),
         Stage::Ended => unreachable!(),
     }
 }

@@ -4,22 +4,27 @@
 mod begin;
 mod descent;
 mod laws;
+mod left;
+#[cfg(test)]
+mod left_tests;
 mod memory;
 mod program;
 mod put;
 mod schedule;
 mod search;
+mod seek;
 mod split;
 mod take;
 #[cfg(test)]
 mod tests;
 
 pub use begin::begins_in_memory;
-pub use ct_tree_laws::{Stage, Walk};
+pub use ct_tree_laws::{Stage, Walk, Way};
 pub use laws::half_split_is_not_reached;
 pub use memory::run_in_memory;
 pub use program::{Answer, Happened, Program, turn};
 pub use put::Put;
 pub use schedule::run;
 pub use search::Search;
+pub use seek::Seek;
 pub use take::Take;

@@ -7,7 +7,7 @@ ghost use Rattle.ct_definitions.specs.Pairs.{Pair};
 ghost use Rattle.ct_tree_laws.specs.Trees.{Chain};
 ghost use Rattle.ct_tree_laws.specs.Stands.{Stands, Stepped};
 ghost use Rattle.ct_tree.specs.Schedules.{walk_of, stage_of, task_of, is_ended, IsReady, Happens, Puts, Takes, Searches};
-ghost use Rattle.ct_tree.specs.Answers.{IsPair, IsPutting, IsTaking, IsSearching};
+ghost use Rattle.ct_tree.specs.Answers.{IsPair, IsPutting, IsTaking, IsSearchingBy};
 
 use crate::put::Put;
 use crate::search::Search;
@@ -61,8 +61,8 @@ pub fn turn<N: Nodes>(program: &mut Program, nodes: &mut N) -> Turn<Answer>
 }
 
 /// Whether a stage is the last one.
-fn is_ended(stage: Stage) -> bool
-    ensures { result ≡ is_ended stage }
+fn is_ended(stage: &Stage) -> bool
+    ensures { result ≡ is_ended stage.now }
 {
     match stage {
         Stage::Ended => true,
@@ -75,6 +75,12 @@ fn is_ended(stage: Stage) -> bool
         Stage::Cut { page: _, right: _ } => false,
         Stage::Share { page: _, above: _ } => false,
         Stage::Shared { page: _, above: _ } => false,
+        Stage::SharedLeft { page: _ } => false,
+        Stage::Left {
+            low: _,
+            or_at: _,
+            way: _,
+        } => false,
     }
 }
 
@@ -88,7 +94,7 @@ fn turn_put<N: Nodes>(put: &mut Put, nodes: &mut N) -> Turn<Answer>
     ensures stepped { Stepped put.old.walk put.new.stage (N.world nodes.old) (N.world nodes.new) }
     ensures happens { IsTrue (N.world nodes.old).founded → (at : Root) (keys : List Pair) → Chain (N.world nodes.old) at keys → (now : List Pair) × Happens at (Puts put.old.walk.at put.old.walk.target) result keys now × Chain (N.world nodes.new) at now }
 {
-    if is_ended(put.stage) {
+    if is_ended(&put.stage) {
         return Turn::More;
     }
     match put.turn(nodes) {
@@ -109,7 +115,7 @@ fn turn_take<N: Nodes>(take: &mut Take, nodes: &mut N) -> Turn<Answer>
     ensures stepped { Stepped take.old.walk take.new.stage (N.world nodes.old) (N.world nodes.new) }
     ensures happens { IsTrue (N.world nodes.old).founded → (at : Root) (keys : List Pair) → Chain (N.world nodes.old) at keys → (now : List Pair) × Happens at (Takes take.old.walk.at take.old.walk.target) result keys now × Chain (N.world nodes.new) at now }
 {
-    if is_ended(take.stage) {
+    if is_ended(&take.stage) {
         return Turn::More;
     }
     match take.turn(nodes) {
@@ -122,14 +128,14 @@ fn turn_take<N: Nodes>(take: &mut Take, nodes: &mut N) -> Turn<Answer>
 
 fn turn_search<N: Nodes>(search: &mut Search, nodes: &mut N) -> Turn<Answer>
     requires stands { Stands search.old.walk search.old.stage (N.world nodes.old) }
-    requires ready { IsSearching search.old.above search.old.stage ⊎ (search.old.stage ≡ Stage.Ended) }
+    requires ready { IsSearchingBy search.old.seek search.old.stage ⊎ (search.old.stage ≡ Stage.Ended) }
     ensures walk { search.new.walk ≡ search.old.walk }
-    ensures above { search.new.above ≡ search.old.above }
-    ensures ready { IsSearching search.new.above search.new.stage ⊎ (search.new.stage ≡ Stage.Ended) }
+    ensures seek { search.new.seek ≡ search.old.seek }
+    ensures ready { IsSearchingBy search.new.seek search.new.stage ⊎ (search.new.stage ≡ Stage.Ended) }
     ensures stepped { Stepped search.old.walk search.new.stage (N.world nodes.old) (N.world nodes.new) }
-    ensures happens { IsTrue (N.world nodes.old).founded → (at : Root) (keys : List Pair) → Chain (N.world nodes.old) at keys → (now : List Pair) × Happens at (Searches search.old.walk.at search.old.walk.target search.old.above) result keys now × Chain (N.world nodes.new) at now }
+    ensures happens { IsTrue (N.world nodes.old).founded → (at : Root) (keys : List Pair) → Chain (N.world nodes.old) at keys → (now : List Pair) × Happens at (Searches search.old.walk.at search.old.walk.target search.old.seek) result keys now × Chain (N.world nodes.new) at now }
 {
-    if is_ended(search.stage) {
+    if is_ended(&search.stage) {
         return Turn::More;
     }
     match search.turn(nodes) {

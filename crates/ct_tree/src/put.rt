@@ -12,6 +12,7 @@ use crate::split::{allocate, cut_left, write_right};
 use ct_disk::Turn;
 use ct_node::{Mark, Node, Nodes, Place, Root, Target};
 use ct_tree_laws::{Stage, Walk};
+use std::mem::replace;
 
 /// Puts one pair into an index, in turns. A pair that is there already is left as it is.
 #[derive(Drop)]
@@ -53,7 +54,8 @@ impl Put {
         ensures busy { OnBusy result (IsInTheWay (N.flushes nodes.old) (N.world nodes.old) self.old.walk.op) }
         ensures cause { CausedTurn result (N.faults nodes.old) (N.faults nodes.new) (N.halted nodes.old) (N.halted nodes.new) }
     {
-        let step = put_step(&self.walk, self.mark, self.stage, nodes);
+        let stage = replace(&mut self.stage, Stage::Ended);
+        let step = put_step(&self.walk, self.mark, stage, nodes);
         self.stage = step.0;
         step.1
     }
@@ -82,6 +84,12 @@ fn put_step<N: Nodes>(walk: &Walk, mark: Mark, stage: Stage, nodes: &mut N) -> (
         Stage::Cut { page, right } => return cut_left(walk, nodes, page, right),
         Stage::Share { page: _, above: _ } => unreachable!(),
         Stage::Shared { page: _, above: _ } => unreachable!(),
+        Stage::SharedLeft { page: _ } => unreachable!(),
+        Stage::Left {
+            low: _,
+            or_at: _,
+            way: _,
+        } => unreachable!(),
         Stage::Ended => unreachable!(),
     }
 }

@@ -1,37 +1,41 @@
-//! Searching to the right: shared latches from the leaf of the target to the leaf of the answer.
+//! Searching an index: shared latches from the leaf of the target to the leaf of the answer, here to
+//! the right.
 
 ghost use Rattle.std.specs.Prelude.{◌≡◌, ◌≤◌, ◌<◌, IsTrue, false, true, length};
 ghost use Rattle.ct_node.specs.Turns.{OnBusy, CausedTurn};
 ghost use Rattle.ct_tree_laws.specs.Stands.{Stands, Stepped, KeepsKeys, HasNone};
-ghost use Rattle.ct_tree.specs.Answers.{is_done, TellsFound, IsFound, IsInTheWay, IsSearching, IsSeeking};
+ghost use Rattle.ct_tree.specs.Answers.{is_done, TellsFound, IsFound, IsInTheWay, IsSearching, IsSeeking, IsSearchingBy, found_right, found_by};
 
 use crate::descent::{answer_with, descend, is_done, start};
+use crate::left::left_step;
+use crate::seek::Seek;
 use ct_disk::Turn;
 use ct_node::{Node, Nodes, Pair, Place, Root, Target};
 use ct_tree_laws::{Stage, Walk};
 use std::alloc::Global;
+use std::mem::replace;
 
-/// Searches an index to the right, in turns. It keeps its latches until `end`.
+/// Searches an index in turns. It keeps its latches until `end`.
 #[derive(Drop)]
 pub struct Search {
     alloc: Global,
     pub walk: Walk,
-    pub above: bool,
+    pub seek: Seek,
     pub stage: Stage,
 }
 
 impl Search {
-    /// A search for the first pair at the target or above it; where `above` is set, above it. It
-    /// takes no memory.
-    pub fn new(alloc: Global, op: u64, at: Root, target: Target, above: bool) -> Search
+    /// A search for one pair, by its place beside the target: `First` is below every pair, `Last`
+    /// above every pair, and `Before` is not given. It takes no memory.
+    pub fn new(alloc: Global, op: u64, at: Root, target: Target, seek: Seek) -> Search
         ensures walk { result.walk ≡ record { op = op; at = at; target = target } }
-        ensures above { result.above ≡ above }
+        ensures seek { result.seek ≡ seek }
         ensures stage { result.stage ≡ Stage.Start }
     {
         Search {
             alloc,
             walk: Walk { op, at, target },
-            above,
+            seek,
             stage: Stage::Start,
         }
     }
@@ -41,28 +45,30 @@ impl Search {
     /// back, and begins again.
     pub fn turn<N: Nodes>(&mut self, nodes: &mut N) -> Turn<Option<Pair>>
         requires stands { Stands self.old.walk self.old.stage (N.world nodes.old) }
-        requires open { IsSearching self.old.above self.old.stage }
+        requires open { IsSearchingBy self.old.seek self.old.stage }
         ensures walk { self.new.walk ≡ self.old.walk }
-        ensures above { self.new.above ≡ self.old.above }
+        ensures seek { self.new.seek ≡ self.old.seek }
         ensures stepped { Stepped self.old.walk self.new.stage (N.world nodes.old) (N.world nodes.new) }
         ensures keys { KeepsKeys (N.world nodes.old) (N.world nodes.new) }
-        ensures found { IsFound self.old.walk self.old.above result (N.world nodes.old) }
-        ensures open { IsSearching self.new.above self.new.stage }
+        ensures found { IsFound self.old.walk (found_by self.old.seek) result (N.world nodes.old) }
+        ensures open { IsSearchingBy self.new.seek self.new.stage }
         ensures bears { N.marked nodes.new ≡ N.marked nodes.old }
         ensures busy { OnBusy result (IsInTheWay (N.flushes nodes.old) (N.world nodes.old) self.old.walk.op) }
+        ensures given_back { OnBusy result (λ _. HasNone self.old.walk.op (N.world nodes.new)) }
         ensures cause { CausedTurn result (N.faults nodes.old) (N.faults nodes.new) (N.halted nodes.old) (N.halted nodes.new) }
     {
-        let step = search_step(self.alloc, &self.walk, self.above, self.stage, nodes);
-        self.stage = step.0;
+        let stage = replace(&mut self.stage, Stage::Ended);
+        let step = seek_step(self.alloc, &self.walk, self.seek, stage, nodes);
+        self.stage = give_way(&self.walk, self.seek, step.0, &step.1, nodes);
         answer_with(step.1, step.2)
     }
 
     /// Ends the search: none of its latches stands afterwards.
     pub fn end<N: Nodes>(&mut self, nodes: &mut N)
         requires stands { Stands self.old.walk self.old.stage (N.world nodes.old) }
-        requires open { IsSearching self.old.above self.old.stage }
+        requires open { IsSearchingBy self.old.seek self.old.stage }
         ensures walk { self.new.walk ≡ self.old.walk }
-        ensures above { self.new.above ≡ self.old.above }
+        ensures seek { self.new.seek ≡ self.old.seek }
         ensures ended { self.new.stage ≡ Stage.Ended }
         ensures stepped { Stepped self.old.walk self.new.stage (N.world nodes.old) (N.world nodes.new) }
         ensures keys { KeepsKeys (N.world nodes.old) (N.world nodes.new) }
@@ -76,6 +82,55 @@ impl Search {
 }
 
 /// The turn of a search at a stage.
+fn seek_step<N: Nodes>(
+    alloc: Global,
+    walk: &Walk,
+    seek: Seek,
+    stage: Stage,
+    nodes: &mut N,
+) -> (Stage, Turn<()>, Option<Pair>)
+    requires stands { Stands walk.now stage (N.world nodes.old) }
+    requires open { IsSearchingBy seek stage }
+    ensures stepped { Stepped walk.now result.0 (N.world nodes.old) (N.world nodes.new) }
+    ensures keys { KeepsKeys (N.world nodes.old) (N.world nodes.new) }
+    ensures found { TellsFound walk.now (found_by seek) result.1 result.2 (N.world nodes.old) }
+    ensures searching { IsSearchingBy seek result.0 }
+    ensures bears { N.marked nodes.new ≡ N.marked nodes.old }
+    ensures busy { OnBusy result.1 (IsInTheWay (N.flushes nodes.old) (N.world nodes.old) walk.now.op) }
+    ensures cause { CausedTurn result.1 (N.faults nodes.old) (N.faults nodes.new) (N.halted nodes.old) (N.halted nodes.new) }
+{
+    match seek {
+        Seek::AtOrAbove => return search_step(alloc, walk, false, stage, nodes),
+        Seek::Above => return search_step(alloc, walk, true, stage, nodes),
+        Seek::AtOrBelow => return left_step(alloc, walk, true, stage, nodes),
+        Seek::Below => return left_step(alloc, walk, false, stage, nodes),
+    }
+}
+
+/// Where another operation is in the way, gives all latches back, and the search begins again.
+fn give_way<N: Nodes>(walk: &Walk, seek: Seek, to: Stage, turn: &Turn<()>, nodes: &mut N) -> Stage
+    requires stands { Stands walk.now to (N.world nodes.old) }
+    requires open { IsSearchingBy seek to }
+    ensures stepped { Stepped walk.now result (N.world nodes.old) (N.world nodes.new) }
+    ensures keys { KeepsKeys (N.world nodes.old) (N.world nodes.new) }
+    ensures searching { IsSearchingBy seek result }
+    ensures given_back { OnBusy turn.now (λ _. HasNone walk.now.op (N.world nodes.new)) }
+    ensures bears { N.marked nodes.new ≡ N.marked nodes.old }
+    ensures faults { N.faults nodes.new ≡ N.faults nodes.old }
+    ensures halted { N.halted nodes.new ≡ N.halted nodes.old }
+{
+    match turn {
+        Turn::Busy { op: _ } => {
+            nodes.free_all(walk.op);
+            return Stage::Start;
+        }
+        Turn::Done(()) => return to,
+        Turn::More => return to,
+        Turn::Refused(_) => return to,
+    }
+}
+
+/// The turn of a search to the right at a stage.
 fn search_step<N: Nodes>(
     alloc: Global,
     walk: &Walk,
@@ -87,7 +142,7 @@ fn search_step<N: Nodes>(
     requires open { IsSearching above stage }
     ensures stepped { Stepped walk.now result.0 (N.world nodes.old) (N.world nodes.new) }
     ensures keys { KeepsKeys (N.world nodes.old) (N.world nodes.new) }
-    ensures found { TellsFound walk.now above result.1 result.2 (N.world nodes.old) }
+    ensures found { TellsFound walk.now (found_right above) result.1 result.2 (N.world nodes.old) }
     ensures searching { IsSearching above result.0 }
     ensures bears { N.marked nodes.new ≡ N.marked nodes.old }
     ensures busy { OnBusy result.1 (IsInTheWay (N.flushes nodes.old) (N.world nodes.old) walk.now.op) }
@@ -122,6 +177,12 @@ fn find_shared<N: Nodes>(walk: &Walk, above: bool, stage: Stage, nodes: &mut N) 
         Stage::Split { page: _, right: _ } => unreachable!(),
         Stage::Cut { page: _, right: _ } => unreachable!(),
         Stage::Shared { page: _, above: _ } => unreachable!(),
+        Stage::SharedLeft { page: _ } => unreachable!(),
+        Stage::Left {
+            low: _,
+            or_at: _,
+            way: _,
+        } => unreachable!(),
         Stage::Ended => unreachable!(),
     }
 }
@@ -140,16 +201,12 @@ pub(crate) fn share_leaf<N: Nodes>(
     ensures searching { IsSearching above result.0 }
     ensures bears { N.marked nodes.new ≡ N.marked nodes.old }
     ensures busy { OnBusy result.1 (IsInTheWay (N.flushes nodes.old) (N.world nodes.old) walk.now.op) }
-    ensures given_back { OnBusy result.1 (λ _. HasNone walk.now.op (N.world nodes.new)) }
     ensures cause { CausedTurn result.1 (N.faults nodes.old) (N.faults nodes.new) (N.halted nodes.old) (N.halted nodes.new) }
 {
     match nodes.share(walk.op, page) {
         Turn::Done(()) => return (Stage::Shared { page, above }, Turn::More),
         Turn::More => return (Stage::Leaf { page }, Turn::More),
-        Turn::Busy { op } => {
-            nodes.free_all(walk.op);
-            return (Stage::Start, Turn::Busy { op });
-        }
+        Turn::Busy { op } => return (Stage::Leaf { page }, Turn::Busy { op }),
         Turn::Refused(fault) => return (Stage::Leaf { page }, Turn::Refused(fault)),
     }
 }
@@ -168,16 +225,12 @@ pub(crate) fn share_next<N: Nodes>(
     ensures searching { IsSearching above result.0 }
     ensures bears { N.marked nodes.new ≡ N.marked nodes.old }
     ensures busy { OnBusy result.1 (IsInTheWay (N.flushes nodes.old) (N.world nodes.old) walk.now.op) }
-    ensures given_back { OnBusy result.1 (λ _. HasNone walk.now.op (N.world nodes.new)) }
     ensures cause { CausedTurn result.1 (N.faults nodes.old) (N.faults nodes.new) (N.halted nodes.old) (N.halted nodes.new) }
 {
     match nodes.share(walk.op, page) {
         Turn::Done(()) => return (Stage::Shared { page, above }, Turn::More),
         Turn::More => return (Stage::Share { page, above }, Turn::More),
-        Turn::Busy { op } => {
-            nodes.free_all(walk.op);
-            return (Stage::Start, Turn::Busy { op });
-        }
+        Turn::Busy { op } => return (Stage::Share { page, above }, Turn::Busy { op }),
         Turn::Refused(fault) => return (Stage::Share { page, above }, Turn::Refused(fault)),
     }
 }
@@ -194,7 +247,7 @@ pub(crate) fn look_shared<N: Nodes>(
     requires { Stands walk.now (Stage.Shared page above) (N.world nodes.old) }
     ensures stepped { Stepped walk.now result.0 (N.world nodes.old) (N.world nodes.new) }
     ensures keys { KeepsKeys (N.world nodes.old) (N.world nodes.new) }
-    ensures found { TellsFound walk.now above result.1 result.2 (N.world nodes.old) }
+    ensures found { TellsFound walk.now (found_right above) result.1 result.2 (N.world nodes.old) }
     ensures searching { IsSearching above result.0 }
     ensures bears { N.marked nodes.new ≡ N.marked nodes.old }
     ensures busy { OnBusy result.1 (IsInTheWay (N.flushes nodes.old) (N.world nodes.old) walk.now.op) }

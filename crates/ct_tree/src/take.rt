@@ -11,6 +11,7 @@ use crate::descent::{answer_with, find_leaf, is_done, is_for};
 use ct_disk::Turn;
 use ct_node::{Mark, Node, Nodes, Place, Root, Target};
 use ct_tree_laws::{Stage, Walk};
+use std::mem::replace;
 
 /// Takes one pair out of an index, in turns.
 #[derive(Drop)]
@@ -54,7 +55,8 @@ impl Take {
         ensures busy { OnBusy result (IsInTheWay (N.flushes nodes.old) (N.world nodes.old) self.old.walk.op) }
         ensures cause { CausedTurn result (N.faults nodes.old) (N.faults nodes.new) (N.halted nodes.old) (N.halted nodes.new) }
     {
-        let step = take_step(&self.walk, self.mark, self.stage, nodes);
+        let stage = replace(&mut self.stage, Stage::Ended);
+        let step = take_step(&self.walk, self.mark, stage, nodes);
         self.stage = step.0;
         answer_with(step.1, step.2)
     }

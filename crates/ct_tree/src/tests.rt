@@ -71,7 +71,13 @@ fn add_round(schedule: &mut Vec<usize>, count: usize) -> Result<(), NoMemory>
 #[test]
 fn a_search_beside_splits_finds_the_first_pair(rt: HostRuntime) -> Result<(), NoMemory> {
     let mut programs = puts(rt.alloc(), 60)?;
-    programs.push(Program::Search(Search::new(rt.alloc(), 60, FIRST, Target::First, false)))?;
+    programs.push(Program::Search(Search::new(
+        rt.alloc(),
+        60,
+        FIRST,
+        Target::First,
+        Seek::AtOrAbove,
+    )))?;
     let schedule = rounds(rt.alloc(), programs.len(), 400)?;
     let happened = run_in_memory(
         rt.alloc(),

@@ -23,6 +23,8 @@ use Rattle.ct_tree_laws.proofs.Kept.{KeepsAt, IsReached, IsInRole-kept}
 use Rattle.ct_tree_laws.proofs.Steps.{IsStep}
 use Rattle.ct_tree_laws.proofs.Chains.{one_node, link_to, Roles}
 use Rattle.ct_tree_laws.proofs.Edits.{not_latched_held, not_theirs_held}
+use Rattle.ct_tree_laws.specs.Left.{IsAboveTarget, EndsAbove, IsClearLeft, HasPassedLeft}
+use Rattle.ct_tree_laws.proofs.LeftKept.{EndsAbove-higher, IsAboveTarget-higher}
 
 -- some pair
 no_pair : Pair
@@ -292,6 +294,23 @@ module _ (op page right : ℕ) (node : NodeValue) (w : World) (apart : IsApart w
           inl (ap (λ (u : NodeValue). is_past u.high target) same ∙ clear_before of_node (under_low low node.low (middle_above node sound enough) from_middle))
       by_page (inr (inr before)) = passed q v (record { is = before.is; of = is.of; leaf = is.leaf; linked = before.linked }) lower
 
+  HasPassedLeft-cut : (other : ℕ) (t : Tree) (or_at : Bool) (target : Target) (low : Pair) → (other ≡ op → ⊥) → IsNode node → HasPassedLeft w t other or_at target low → HasPassedLeft (edited op page (lower_half right node) w) t other or_at target low
+  HasPassedLeft-cut other t or_at target low differ sound passed q v is above = by_page (from_before q v (record { is = is.is; linked = is.linked }))
+    where
+      begins_before : IsOf t node → EndsAbove low node.high → IsAboveTarget target node.low
+      begins_before of ends = ⊎_elim (λ begins. begins) (λ (latched, clear). absurd (not_latched_held op page node w apart held other differ latched)) (passed page node (record { is = held.is; of = of; leaf = leaf; linked = held.linked }) ends)
+
+      by_page : ((q ≡ page) × (v ≡ lower_half right node)) ⊎ (((q ≡ right) × (v ≡ upper_half node)) ⊎ IsReached w q v) → IsClearLeft (edited op page (lower_half right node) w) other or_at target q v
+      by_page (inl (one, same)) =
+          let of_node : IsOf t node = let halves = subst (IsOf t) same is.of in record { file = halves.file; index = halves.index } in
+          let ends : EndsAbove low (Some (middle_pair node)) = subst (EndsAbove low) (ap (λ (u : NodeValue). u.high) same ∙ high-lower right node enough) above in
+          inl (subst (IsAboveTarget target) (sym (ap (λ (u : NodeValue). u.low) same)) (begins_before of_node (EndsAbove-higher low (middle_pair node) node.high (middle_below node sound enough) ends)))
+      by_page (inr (inl (one, same))) =
+          let of_node : IsOf t node = let halves = subst (IsOf t) same is.of in record { file = halves.file; index = halves.index } in
+          let ends : EndsAbove low node.high = subst (EndsAbove low) (ap (λ (u : NodeValue). u.high) same) above in
+          inl (subst (IsAboveTarget target) (sym (ap (λ (u : NodeValue). u.low) same ∙ low-upper node enough)) (IsAboveTarget-higher target node.low (middle_pair node) (λ lower up past. is_past-lower target lower (middle_pair node) up past) (middle_above node sound enough) (begins_before of_node ends)))
+      by_page (inr (inr before)) = passed q v (record { is = before.is; of = is.of; leaf = is.leaf; linked = before.linked }) above
+
   pub IsStep-cut : IsNode node → IsStep op w (edited op page (lower_half right node) w)
   IsStep-cut sound = record {
     founded = refl;
@@ -307,6 +326,7 @@ module _ (op page right : ℕ) (node : NodeValue) (w : World) (apart : IsApart w
     };
     blank = λ other q differ theirs. page_at-edited_other op page (lower_half right node) w q (λ one. not_theirs_held op page node w held other (subst (λ p. has_fresh other p w ≡ true) one theirs));
     passed = λ other t or_at target low differ. HasPassed-cut other t or_at target low differ sound;
+    left = λ other t or_at target low differ. HasPassedLeft-cut other t or_at target low differ sound;
   }
 
   -- the joined pairs stay

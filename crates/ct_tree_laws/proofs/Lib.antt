@@ -3,6 +3,7 @@ pub mod Taking
 pub mod Pages
 pub mod Kept
 pub mod Chains
+pub mod LeftKept
 pub mod Steps
 pub mod Edits
 pub mod Cuts
@@ -14,5 +15,8 @@ pub mod PutTurns
 pub mod SplitTurns
 pub mod SearchTurns
 pub mod Finds
+pub mod LeftLists
+pub mod LeftTurns
+pub mod LeftFinds
 pub mod NewTree
 pub mod HalfSplits

@@ -6,12 +6,15 @@ use Rattle.ct_node.specs.Nodes.{NodeValue}
 use Rattle.ct_node.specs.Worlds.{World, Holds, Blank, page_at, has_own, has_fresh, IsTidy}
 use Rattle.ct_tree_laws.specs.declared.walk.Walk.{Walk}
 use Rattle.ct_tree_laws.specs.declared.walk.Stage.{Stage}
-use Rattle.ct_tree_laws.specs.declared.walk.Stage.TheVariants.{Start, Down, Leaf, Held, Full, Split, Cut, Share, Shared, Ended}
+use Rattle.ct_tree_laws.specs.declared.walk.Stage.TheVariants.{Start, Down, Leaf, Held, Full, Split, Cut, Share, Shared, Ended, SharedLeft, Left}
 use Rattle.ct_tree_laws.specs.Trees.{Tree, IsAt, IsNear}
-use Rattle.ct_tree_laws.specs.Stands.{HasNone, HasOnly, IsNearLeaf, IsFull, IsTidyBut, IsReachedBySearch, IsAtStage, StandsIn, Stands, Keeps}
+use Rattle.ct_tree_laws.specs.Stands.{HasNone, HasOnly, IsNearLeaf, IsFull, IsTidyBut, IsReachedBySearch, IsAtStage, StandsIn, Stands, Keeps, IsOnWay}
 use Rattle.ct_tree_laws.proofs.Taking.{has_latch_from_own}
 use Rattle.ct_tree_laws.proofs.Kept.{IsReached}
 use Rattle.ct_tree_laws.proofs.Steps.{IsStep}
+use Rattle.ct_node.specs.declared.target.Target.TheVariants.{Before}
+use Rattle.ct_tree_laws.specs.declared.left.Way.{Way}
+use Rattle.ct_tree_laws.specs.declared.left.Way.TheVariants as way
 
 module _ (op : ℕ) (w now : World) (step : IsStep op w now) (other : ℕ) (differ : other ≡ op → ⊥) (t : Tree) (target : Target) where
   tidy : IsTidy other w → IsTidy other now
@@ -34,6 +37,12 @@ module _ (op : ℕ) (w now : World) (step : IsStep op w now) (other : ℕ) (diff
   reached : (page : ℕ) (above : Bool) → IsReachedBySearch w t other above target page → IsReachedBySearch now t other above target page
   reached page above is = (is.0, step.at t true is.0 page is.1, step.passed other t above target is.0 differ is.2)
 
+  on_way : (goal : Target) (on : Way) → IsOnWay w t other goal on → IsOnWay now t other goal on
+  on_way goal way.Start is = tt
+  on_way goal (way.Down page) is = (is.0, is.1, step.at t is.0 is.1 page is.2, is.3)
+  on_way goal (way.Leaf page) is = (is.0, step.at t true is.0 page is.1, is.2)
+  on_way goal (way.Shared page) is = ((is.0.0, step.at t true is.0.0 page is.0.1, is.0.2), step.latch other page differ ∙ is.1)
+
   none : HasNone other w → HasNone other now
   none is page = step.latch other page differ ∙ is page
 
@@ -50,6 +59,8 @@ module _ (op : ℕ) (w now : World) (step : IsStep op w now) (other : ℕ) (diff
   stage_kept (Cut page right) is = (tidy_but right is.0, (is.1.0, full page is.1.0 is.1.1, step.blank other right differ is.2 ∙ is.1.2), step.fresh other right differ ∙ is.2, only page is.3)
   stage_kept (Share page above) is = (tidy is.0, reached page above is.1)
   stage_kept (Shared page above) is = (tidy is.0, reached page above is.1, step.latch other page differ ∙ is.2)
+  stage_kept (SharedLeft page) is = (tidy is.0, near_leaf page is.1, step.latch other page differ ∙ is.2)
+  stage_kept (Left low or_at on) is = (tidy is.0, step.left other t or_at target low differ is.1, on_way (Before low) on is.2)
   stage_kept Ended is = none is
 
 -- a step of an operation keeps what all others remember

@@ -149,7 +149,7 @@ first_passed w at t leaves op above target page tree near x u is lower =
     by_high (Some high) told ends = past_from_low target high near.0 (subst (LowLe (Some high)) near.1.from ends) near.2
 
 -- the leaf is shared
-latch_kept : (op page : ℕ) (q : ℕ) (w : World) → has_latch op q w ≡ true → has_latch op q (with_holds (with_share page op w.holds) w) ≡ true
+pub latch_kept : (op page : ℕ) (q : ℕ) (w : World) → has_latch op q w ≡ true → has_latch op q (with_holds (with_share page op w.holds) w) ≡ true
 latch_kept op page q w is = list_any-with_share_more (is_of q op) page op w.holds
     (λ hold of mine.
     let parts = is_of_parts page op hold of in
@@ -160,7 +160,7 @@ share_passed : (w : World) (t : Tree) (op page : ℕ) (above : Bool) (target : T
 share_passed w t op page above target low passed q v is lower =
     ⊎_elim (λ past. inl past) (λ (latched, clear). inr (latch_kept op page q w latched, clear)) (passed q v (record { is = is.is; of = is.of; leaf = is.leaf; linked = is.linked }) lower)
 
-share_step : (walk : Walk) (page : ℕ) (w : World) → find (bars page walk.op false) w.holds ≡ None → IsApart w → IsStep walk.op w (with_holds (with_share page walk.op w.holds) w)
+pub share_step : (walk : Walk) (page : ℕ) (w : World) → find (bars page walk.op false) w.holds ≡ None → IsApart w → IsStep walk.op w (with_holds (with_share page walk.op w.holds) w)
 share_step walk page w free apart = IsStep-latches walk.op w (with_holds (with_share page walk.op w.holds) w) apart (ChangesLatches-share page walk.op w free)
 
 pub share_first : (walk : Walk) (above : Bool) (page : ℕ) (w now : World) → Stands walk (stage.Leaf page) w → find (bars page walk.op false) w.holds ≡ None → now ≡ with_holds (with_share page walk.op w.holds) w → Stepped walk (stage.Shared page above) w now
@@ -184,7 +184,7 @@ share_keys walk from page w now stands free is = subst (KeepsKeys w) (sym is) (K
 abbrev pub all_freed : ℕ → World → World
 all_freed op w = with_holds (filter (λ hold. not (hold.op == op)) w.holds) w
 
-all_none : (op : ℕ) (w : World) → HasNone op (all_freed op w)
+pub all_none : (op : ℕ) (w : World) → HasNone op (all_freed op w)
 all_none op w page = list_any_gone (is_of page op) (λ hold. not (hold.op == op)) w.holds (λ hold of. ap not (eq-eqb hold.op op (is_of_parts page op hold of).1))
 
 pub begin_again : (walk : Walk) (from : Stage) (w mid now : World) → Stands walk from w → ((here : StandsIn walk from w) → IsTidy walk.op w) → mid ≡ w → now ≡ all_freed walk.op mid → Stepped walk stage.Start w now

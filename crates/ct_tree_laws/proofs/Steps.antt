@@ -13,6 +13,8 @@ use Rattle.ct_tree_laws.proofs.Taking.{ChangesLatches}
 use Rattle.ct_tree_laws.proofs.Pages.{page_at-with_fresh, is_fresh-with_fresh, page_within, IsApart-with_fresh, has_fresh-with_fresh_other}
 use Rattle.ct_tree_laws.proofs.Kept.{KeepsAt, KeepsLinks, KeepsDefinitions, IsReached, IsAlike, IsAlike-same, KeepsAt-from_links, IsTree-kept}
 use Rattle.ct_tree_laws.proofs.Chains.{one_node}
+use Rattle.ct_tree_laws.specs.Left.{HasPassedLeft}
+use Rattle.ct_tree_laws.proofs.LeftKept.{HasPassedLeft-kept}
 
 -- what a call of one operation leaves as it was, or as good as it was
 pub record IsStep (op : ℕ) (w now : World) : Type 0 where
@@ -26,6 +28,7 @@ pub record IsStep (op : ℕ) (w now : World) : Type 0 where
   pub held : (other page : ℕ) (node : NodeValue) → (other ≡ op → ⊥) → has_latch other page w ≡ true → IsReached w page node → IsReached now page node
   pub blank : (other page : ℕ) → (other ≡ op → ⊥) → has_fresh other page w ≡ true → page_at now page ≡ page_at w page
   pub passed : (other : ℕ) (t : Tree) (or_at : Bool) (target : Target) (low : Option Pair) → (other ≡ op → ⊥) → HasPassed w t other or_at target low → HasPassed now t other or_at target low
+  pub left : (other : ℕ) (t : Tree) (or_at : Bool) (target : Target) (low : Pair) → (other ≡ op → ⊥) → HasPassedLeft w t other or_at target low → HasPassedLeft now t other or_at target low
 
 pub IsStep-none : (op : ℕ) (w : World) → IsApart w → IsStep op w w
 IsStep-none op w apart = record {
@@ -39,6 +42,7 @@ IsStep-none op w apart = record {
   held = λ other page node differ latched reached. reached;
   blank = λ other page differ mine. refl;
   passed = λ other t or_at target low differ passed. passed;
+  left = λ other t or_at target low differ passed. passed;
 }
 
 pub IsStep-next : (op : ℕ) (w mid now : World) → IsStep op w mid → IsStep op mid now → IsStep op w now
@@ -53,6 +57,7 @@ IsStep-next op w mid now first second = record {
   held = λ other page node differ latched reached. second.held other page node differ (first.latch other page differ ∙ latched) (first.held other page node differ latched reached);
   blank = λ other page differ mine. second.blank other page differ (first.fresh other page differ ∙ mine) ∙ first.blank other page differ mine;
   passed = λ other t or_at target low differ passed. second.passed other t or_at target low differ (first.passed other t or_at target low differ passed);
+  left = λ other t or_at target low differ passed. second.left other t or_at target low differ (first.left other t or_at target low differ passed);
 }
 
 -- where links stay, what a search has passed stays passed
@@ -92,6 +97,7 @@ IsStep-from_links op w now leaves = record {
   held = leaves.held;
   blank = leaves.blank;
   passed = λ other t or_at target low differ. HasPassed-kept w now other leaves.links (λ page. leaves.latch other page differ) (λ page node. leaves.held other page node differ) t or_at target low;
+  left = λ other t or_at target low differ. HasPassedLeft-kept w now other leaves.links (λ page. leaves.latch other page differ) (λ page node. leaves.held other page node differ) t or_at target low;
 }
 
 -- where all pages stay, links do

@@ -10,8 +10,11 @@ use Rattle.ct_node.specs.Halves.{upper_half}
 use Rattle.ct_node.specs.Worlds.{World, Holds, Blank, page_at, has_latch, has_own, has_fresh, is_fresh, IsTidy}
 use Rattle.ct_tree_laws.specs.declared.walk.Walk.{Walk}
 use Rattle.ct_tree_laws.specs.declared.walk.Stage.{Stage}
-use Rattle.ct_tree_laws.specs.declared.walk.Stage.TheVariants.{Start, Down, Leaf, Held, Full, Split, Cut, Share, Shared, Ended}
+use Rattle.ct_tree_laws.specs.declared.walk.Stage.TheVariants.{Start, Down, Leaf, Held, Full, Split, Cut, Share, Shared, Ended, SharedLeft, Left}
 use Rattle.ct_tree_laws.specs.Trees.{Tree, IsOf, IsAt, IsTree, IsApart, IsNear, IsLowFor, HasPassed, Chain}
+use Rattle.ct_tree_laws.specs.declared.left.Way.{Way}
+use Rattle.ct_tree_laws.specs.declared.left.Way.TheVariants as way
+use Rattle.ct_tree_laws.specs.Left.{HasPassedLeft}
 
 -- a leaf from which a walk to the right reaches the target
 abbrev pub IsNearLeaf : World → Tree → Target → ℕ → Type 0
@@ -34,6 +37,13 @@ IsTidyBut op right w = (page : ℕ) → has_fresh op page w ≡ true → (page �
 abbrev pub IsReachedBySearch : World → Tree → ℕ → Bool → Target → ℕ → Type 0
 IsReachedBySearch w t op above target page = (low : Option Pair) × IsAt w t true low page × HasPassed w t op above target low
 
+-- how far a search to the left has come on its way to the leaf of a target
+abbrev pub IsOnWay : World → Tree → ℕ → Target → Way → Type 0
+IsOnWay w t op target way.Start = Unit {0}
+IsOnWay w t op target (way.Down page) = IsNear w t target page
+IsOnWay w t op target (way.Leaf page) = IsNearLeaf w t target page
+IsOnWay w t op target (way.Shared page) = IsNearLeaf w t target page × (has_latch op page w ≡ true)
+
 -- an operation has no latch
 abbrev pub HasNone : ℕ → World → Type 0
 HasNone op w = (page : ℕ) → has_latch op page w ≡ false
@@ -53,6 +63,8 @@ IsAtStage w t op target (Split page right) = IsTidy op w × ((node : NodeValue) 
 IsAtStage w t op target (Cut page right) = IsTidyBut op right w × ((node : NodeValue) × IsFull w t op target page node × (page_at w right ≡ Holds (upper_half node))) × (has_fresh op right w ≡ true) × HasOnly op page w
 IsAtStage w t op target (Share page above) = IsTidy op w × IsReachedBySearch w t op above target page
 IsAtStage w t op target (Shared page above) = IsTidy op w × IsReachedBySearch w t op above target page × (has_latch op page w ≡ true)
+IsAtStage w t op target (SharedLeft page) = IsTidy op w × IsNearLeaf w t target page × (has_latch op page w ≡ true)
+IsAtStage w t op target (Left low or_at on) = IsTidy op w × HasPassedLeft w t op or_at target low × IsOnWay w t op (Before low) on
 IsAtStage w t op target Ended = HasNone op w
 
 -- an operation on a tree: the tree stands, no latches conflict, the target's key is as long as the tree's keys, and what the operation knows of its stage holds

@@ -2,6 +2,8 @@
 //! laws of its edits.
 #![tactic(auto)]
 
+mod left;
 mod walk;
 
+pub use left::Way;
 pub use walk::{Stage, Walk};

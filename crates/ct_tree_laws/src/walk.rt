@@ -1,6 +1,7 @@
 //! What an operation on a tree remembers between its turns.
 
-use ct_node::{Root, Target};
+use crate::left::Way;
+use ct_node::{Pair, Root, Target};
 
 /// An operation: its number, the index and what it looks for.
 #[derive(Drop)]
@@ -11,7 +12,7 @@ pub struct Walk {
 }
 
 /// How far an operation has come.
-#[derive(Clone, Copy)]
+#[derive(Drop)]
 pub enum Stage {
     /// The root is to be read.
     Start,
@@ -32,6 +33,11 @@ pub enum Stage {
     Share { page: u64, above: bool },
     /// The search has this leaf too.
     Shared { page: u64, above: bool },
+    /// The search to the left has the leaf of its target.
+    SharedLeft { page: u64 },
+    /// All leaves from `low` on are passed, by a search for pairs below the target, or also at it;
+    /// it is on its way to the leaf that ends at `low`.
+    Left { low: Pair, or_at: bool, way: Way },
     /// The operation has ended.
     Ended,
 }

@@ -1,0 +1,10 @@
+-- Where operations alone did not make the pages, any of them may begin.
+use Rattle.std.proofs.Common.{◌≡◌, false, sym, ◌∙◌}
+use Rattle.std.proofs.lemmas.Bool.{false≢true}
+use Rattle.ct_node.specs.Worlds.{World}
+use Rattle.ct_tree_laws.specs.declared.walk.Walk.{Walk}
+use Rattle.ct_tree_laws.specs.declared.walk.Stage.{Stage}
+use Rattle.ct_tree_laws.specs.Stands.{Stands}
+
+pub stands_damaged : (walk : Walk) (stage : Stage) (w : World) → w.founded ≡ false → Stands walk stage w
+stands_damaged walk stage w damaged founded = absurd (false≢true (sym damaged ∙ founded))

@@ -1,0 +1,311 @@
+//! Searching to the left: shared latches from the leaf of the target to the leaf of the answer, each
+//! of which is found by a descent of its own to the leaf that ends where the one before begins.
+
+ghost use Rattle.std.specs.Prelude.{◌≡◌, false};
+ghost use Rattle.ct_node.specs.declared.target.Target.TheVariants.{Before};
+ghost use Rattle.ct_node.specs.Places.{next_place};
+ghost use Rattle.ct_node.specs.Turns.{OnBusy, CausedTurn};
+ghost use Rattle.ct_tree_laws.specs.Stands.{Stands, Stepped, KeepsKeys};
+ghost use Rattle.ct_tree.specs.Answers.{is_done, TellsFound, IsInTheWay, IsSearchingLeft, found_left};
+
+use crate::descent::{descend, is_done, start};
+use ct_disk::Turn;
+use ct_node::{Node, Nodes, Pair, Place, Target};
+use ct_tree_laws::{Stage, Walk, Way};
+use std::alloc::Global;
+
+/// The turn of a search to the left at a stage.
+pub(crate) fn left_step<N: Nodes>(
+    alloc: Global,
+    walk: &Walk,
+    or_at: bool,
+    stage: Stage,
+    nodes: &mut N,
+) -> (Stage, Turn<()>, Option<Pair>)
+    requires stands { Stands walk.now stage (N.world nodes.old) }
+    requires open { IsSearchingLeft or_at stage }
+    ensures stepped { Stepped walk.now result.0 (N.world nodes.old) (N.world nodes.new) }
+    ensures keys { KeepsKeys (N.world nodes.old) (N.world nodes.new) }
+    ensures found { TellsFound walk.now (found_left or_at) result.1 result.2 (N.world nodes.old) }
+    ensures searching { IsSearchingLeft or_at result.0 }
+    ensures bears { N.marked nodes.new ≡ N.marked nodes.old }
+    ensures busy { OnBusy result.1 (IsInTheWay (N.flushes nodes.old) (N.world nodes.old) walk.now.op) }
+    ensures cause { CausedTurn result.1 (N.faults nodes.old) (N.faults nodes.new) (N.halted nodes.old) (N.halted nodes.new) }
+{
+    match stage {
+        Stage::Start => return going(start(walk, nodes)),
+        Stage::Down { page } => return going(descend(walk, nodes, page)),
+        Stage::Leaf { page } => return going(share_first(walk, nodes, page)),
+        Stage::SharedLeft { page } => return look_first(alloc, walk, or_at, nodes, page),
+        Stage::Left {
+            low,
+            or_at: over,
+            way,
+        } => return go_left(alloc, walk, over, nodes, low, way),
+        Stage::Held { page: _ } => unreachable!(),
+        Stage::Full { page: _ } => unreachable!(),
+        Stage::Split { page: _, right: _ } => unreachable!(),
+        Stage::Cut { page: _, right: _ } => unreachable!(),
+        Stage::Share { page: _, above: _ } => unreachable!(),
+        Stage::Shared { page: _, above: _ } => unreachable!(),
+        Stage::Ended => unreachable!(),
+    }
+}
+
+/// A turn that goes on finds nothing yet.
+fn going(step: (Stage, Turn<()>)) -> (Stage, Turn<()>, Option<Pair>)
+    ensures stage { result.0 ≡ step.0 }
+    ensures turn { result.1 ≡ step.1 }
+{
+    (step.0, step.1, None)
+}
+
+/// Shares the leaf of the target.
+fn share_first<N: Nodes>(walk: &Walk, nodes: &mut N, page: u64) -> (Stage, Turn<()>)
+    requires { Stands walk.now (Stage.Leaf page) (N.world nodes.old) }
+    ensures stepped { Stepped walk.now result.0 (N.world nodes.old) (N.world nodes.new) }
+    ensures keys { KeepsKeys (N.world nodes.old) (N.world nodes.new) }
+    ensures going { is_done result.1 ≡ false }
+    ensures searching { (or_at : _) → IsSearchingLeft or_at result.0 }
+    ensures bears { N.marked nodes.new ≡ N.marked nodes.old }
+    ensures busy { OnBusy result.1 (IsInTheWay (N.flushes nodes.old) (N.world nodes.old) walk.now.op) }
+    ensures cause { CausedTurn result.1 (N.faults nodes.old) (N.faults nodes.new) (N.halted nodes.old) (N.halted nodes.new) }
+{
+    match nodes.share(walk.op, page) {
+        Turn::Done(()) => return (Stage::SharedLeft { page }, Turn::More),
+        Turn::More => return (Stage::Leaf { page }, Turn::More),
+        Turn::Busy { op } => return (Stage::Leaf { page }, Turn::Busy { op }),
+        Turn::Refused(fault) => return (Stage::Leaf { page }, Turn::Refused(fault)),
+    }
+}
+
+/// Looks at the leaf of the target: answers a pair of it, or goes on to the left and keeps it. A
+/// leaf that was cut before it was shared is given back.
+fn look_first<N: Nodes>(
+    alloc: Global,
+    walk: &Walk,
+    or_at: bool,
+    nodes: &mut N,
+    page: u64,
+) -> (Stage, Turn<()>, Option<Pair>)
+    requires { Stands walk.now (Stage.SharedLeft page) (N.world nodes.old) }
+    ensures stepped { Stepped walk.now result.0 (N.world nodes.old) (N.world nodes.new) }
+    ensures keys { KeepsKeys (N.world nodes.old) (N.world nodes.new) }
+    ensures found { TellsFound walk.now (found_left or_at) result.1 result.2 (N.world nodes.old) }
+    ensures searching { IsSearchingLeft or_at result.0 }
+    ensures bears { N.marked nodes.new ≡ N.marked nodes.old }
+    ensures busy { OnBusy result.1 (IsInTheWay (N.flushes nodes.old) (N.world nodes.old) walk.now.op) }
+    ensures cause { CausedTurn result.1 (N.faults nodes.old) (N.faults nodes.new) (N.halted nodes.old) (N.halted nodes.new) }
+{
+    let mut node = Node::new(0, 0, true, 1);
+    let seen = nodes.look(walk.op, page, &mut node);
+    if !is_done(&seen) {
+        return (Stage::SharedLeft { page }, seen, None);
+    }
+    if let Place::Right(right) = node.next_place(&walk.target) {
+        nodes.free_all(walk.op);
+        return (Stage::Down { page: right }, Turn::More, None);
+    }
+    let ahead = node.count_ahead(&walk.target, or_at);
+    if ahead > 0 {
+        let pair = node.pair(alloc, ahead - 1);
+        return (Stage::SharedLeft { page }, Turn::Done(()), Some(pair));
+    }
+    match node.low(alloc) {
+        Some(low) => {
+            let way = Way::Start;
+            return (Stage::Left { low, or_at, way }, Turn::More, None);
+        }
+        None => return (Stage::SharedLeft { page }, Turn::Done(()), None),
+    }
+}
+
+/// One turn of a search that goes on to the left from a low bound.
+fn go_left<N: Nodes>(
+    alloc: Global,
+    walk: &Walk,
+    or_at: bool,
+    nodes: &mut N,
+    low: Pair,
+    way: Way,
+) -> (Stage, Turn<()>, Option<Pair>)
+    requires { Stands walk.now (Stage.Left low or_at way) (N.world nodes.old) }
+    ensures stepped { Stepped walk.now result.0 (N.world nodes.old) (N.world nodes.new) }
+    ensures keys { KeepsKeys (N.world nodes.old) (N.world nodes.new) }
+    ensures found { TellsFound walk.now (found_left or_at) result.1 result.2 (N.world nodes.old) }
+    ensures searching { IsSearchingLeft or_at result.0 }
+    ensures bears { N.marked nodes.new ≡ N.marked nodes.old }
+    ensures busy { OnBusy result.1 (IsInTheWay (N.flushes nodes.old) (N.world nodes.old) walk.now.op) }
+    ensures cause { CausedTurn result.1 (N.faults nodes.old) (N.faults nodes.new) (N.halted nodes.old) (N.halted nodes.new) }
+{
+    match way {
+        Way::Start => return going(start_left(walk, or_at, nodes, low)),
+        Way::Down { page } => return going(descend_left(walk, or_at, nodes, low, page)),
+        Way::Leaf { page } => return going(share_left(walk, or_at, nodes, low, page)),
+        Way::Shared { page } => return look_left(alloc, walk, or_at, nodes, low, page),
+    }
+}
+
+/// Reads the root.
+fn start_left<N: Nodes>(walk: &Walk, or_at: bool, nodes: &mut N, low: Pair) -> (Stage, Turn<()>)
+    requires { Stands walk.now (Stage.Left low or_at Way.Start) (N.world nodes.old) }
+    ensures stepped { Stepped walk.now result.0 (N.world nodes.old) (N.world nodes.new) }
+    ensures keys { KeepsKeys (N.world nodes.old) (N.world nodes.new) }
+    ensures going { is_done result.1 ≡ false }
+    ensures searching { IsSearchingLeft or_at result.0 }
+    ensures bears { N.marked nodes.new ≡ N.marked nodes.old }
+    ensures busy { OnBusy result.1 (IsInTheWay (N.flushes nodes.old) (N.world nodes.old) walk.now.op) }
+    ensures cause { CausedTurn result.1 (N.faults nodes.old) (N.faults nodes.new) (N.halted nodes.old) (N.halted nodes.new) }
+{
+    let way = Way::Start;
+    match nodes.root(walk.op, walk.at) {
+        Turn::Done(page) => {
+            let way = Way::Down { page };
+            return (Stage::Left { low, or_at, way }, Turn::More);
+        }
+        Turn::More => return (Stage::Left { low, or_at, way }, Turn::More),
+        Turn::Busy { op } => return (Stage::Left { low, or_at, way }, Turn::Busy { op }),
+        Turn::Refused(fault) => return (Stage::Left { low, or_at, way }, Turn::Refused(fault)),
+    }
+}
+
+/// Where the walk to the leaf that ends at a pair goes on from a node. Gives the pair back.
+fn next_before(node: &Node, low: Pair) -> (Place, Pair)
+    ensures place { result.0 ≡ next_place node.now (Before low) }
+    ensures low { result.1 ≡ low }
+{
+    let target = Target::Before(low);
+    let place = node.next_place(&target);
+    match target {
+        Target::Before(low) => return (place, low),
+        Target::First => unreachable!(),
+        Target::Last => unreachable!(),
+        Target::At(_pair) => unreachable!(),
+    }
+}
+
+/// Goes on from a page: right, down, or to the leaf that it is.
+fn descend_left<N: Nodes>(
+    walk: &Walk,
+    or_at: bool,
+    nodes: &mut N,
+    low: Pair,
+    page: u64,
+) -> (Stage, Turn<()>)
+    requires { Stands walk.now (Stage.Left low or_at (Way.Down page)) (N.world nodes.old) }
+    ensures stepped { Stepped walk.now result.0 (N.world nodes.old) (N.world nodes.new) }
+    ensures keys { KeepsKeys (N.world nodes.old) (N.world nodes.new) }
+    ensures going { is_done result.1 ≡ false }
+    ensures searching { IsSearchingLeft or_at result.0 }
+    ensures bears { N.marked nodes.new ≡ N.marked nodes.old }
+    ensures busy { OnBusy result.1 (IsInTheWay (N.flushes nodes.old) (N.world nodes.old) walk.now.op) }
+    ensures cause { CausedTurn result.1 (N.faults nodes.old) (N.faults nodes.new) (N.halted nodes.old) (N.halted nodes.new) }
+{
+    let mut node = Node::new(0, 0, true, 1);
+    let seen = nodes.look(walk.op, page, &mut node);
+    if !is_done(&seen) {
+        let way = Way::Down { page };
+        return (Stage::Left { low, or_at, way }, seen);
+    }
+    let (place, low) = next_before(&node, low);
+    match place {
+        Place::Right(right) => {
+            let way = Way::Down { page: right };
+            return (Stage::Left { low, or_at, way }, Turn::More);
+        }
+        Place::Down(below) => {
+            let way = Way::Down { page: below };
+            return (Stage::Left { low, or_at, way }, Turn::More);
+        }
+        Place::Here(_) => {
+            let way = Way::Leaf { page };
+            return (Stage::Left { low, or_at, way }, Turn::More);
+        }
+        Place::End => {
+            if node.is_leaf() {
+                let way = Way::Leaf { page };
+                return (Stage::Left { low, or_at, way }, Turn::More);
+            }
+            let way = Way::Down { page };
+            return (
+                Stage::Left { low, or_at, way },
+                Turn::Refused(nodes.bad(page)),
+            );
+        }
+    }
+}
+
+/// Shares the leaf that was found, too.
+fn share_left<N: Nodes>(
+    walk: &Walk,
+    or_at: bool,
+    nodes: &mut N,
+    low: Pair,
+    page: u64,
+) -> (Stage, Turn<()>)
+    requires { Stands walk.now (Stage.Left low or_at (Way.Leaf page)) (N.world nodes.old) }
+    ensures stepped { Stepped walk.now result.0 (N.world nodes.old) (N.world nodes.new) }
+    ensures keys { KeepsKeys (N.world nodes.old) (N.world nodes.new) }
+    ensures going { is_done result.1 ≡ false }
+    ensures searching { IsSearchingLeft or_at result.0 }
+    ensures bears { N.marked nodes.new ≡ N.marked nodes.old }
+    ensures busy { OnBusy result.1 (IsInTheWay (N.flushes nodes.old) (N.world nodes.old) walk.now.op) }
+    ensures cause { CausedTurn result.1 (N.faults nodes.old) (N.faults nodes.new) (N.halted nodes.old) (N.halted nodes.new) }
+{
+    let shared = nodes.share(walk.op, page);
+    if !is_done(&shared) {
+        let way = Way::Leaf { page };
+        return (Stage::Left { low, or_at, way }, shared);
+    }
+    let way = Way::Shared { page };
+    (Stage::Left { low, or_at, way }, Turn::More)
+}
+
+/// Looks at the leaf that was found: answers a pair of it, or goes on to the left and keeps it too.
+/// A leaf that was cut before it was shared is given back.
+fn look_left<N: Nodes>(
+    alloc: Global,
+    walk: &Walk,
+    or_at: bool,
+    nodes: &mut N,
+    low: Pair,
+    page: u64,
+) -> (Stage, Turn<()>, Option<Pair>)
+    requires { Stands walk.now (Stage.Left low or_at (Way.Shared page)) (N.world nodes.old) }
+    ensures stepped { Stepped walk.now result.0 (N.world nodes.old) (N.world nodes.new) }
+    ensures keys { KeepsKeys (N.world nodes.old) (N.world nodes.new) }
+    ensures found { TellsFound walk.now (found_left or_at) result.1 result.2 (N.world nodes.old) }
+    ensures searching { IsSearchingLeft or_at result.0 }
+    ensures bears { N.marked nodes.new ≡ N.marked nodes.old }
+    ensures busy { OnBusy result.1 (IsInTheWay (N.flushes nodes.old) (N.world nodes.old) walk.now.op) }
+    ensures cause { CausedTurn result.1 (N.faults nodes.old) (N.faults nodes.new) (N.halted nodes.old) (N.halted nodes.new) }
+{
+    let mut node = Node::new(0, 0, true, 1);
+    let seen = nodes.look(walk.op, page, &mut node);
+    let way = Way::Shared { page };
+    if !is_done(&seen) {
+        return (Stage::Left { low, or_at, way }, seen, None);
+    }
+    let (place, low) = next_before(&node, low);
+    if let Place::Right(right) = place {
+        nodes.free(walk.op, page);
+        let way = Way::Down { page: right };
+        return (Stage::Left { low, or_at, way }, Turn::More, None);
+    }
+    let before = node.count_ahead(&walk.target, or_at);
+    if before > 0 {
+        let pair = node.pair(alloc, before - 1);
+        return (Stage::Left { low, or_at, way }, Turn::Done(()), Some(pair));
+    }
+    match node.low(alloc) {
+        Some(next) => {
+            let on = Stage::Left {
+                low: next,
+                or_at,
+                way: Way::Start,
+            };
+            return (on, Turn::More, None);
+        }
+        None => return (Stage::Left { low, or_at, way }, Turn::Done(()), None),
+    }
+}
