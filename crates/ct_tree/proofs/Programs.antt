@@ -24,6 +24,7 @@ stage_ended (stage.Split page right) is = absurd (false≢true is)
 stage_ended (stage.Cut page right) is = absurd (false≢true is)
 stage_ended (stage.Share page above) is = absurd (false≢true is)
 stage_ended (stage.Shared page above) is = absurd (false≢true is)
+stage_ended (stage.Post separator rise) is = absurd (false≢true is)
 stage_ended stage.Ended is = refl
 
 -- one of the two, where the stage is not the last

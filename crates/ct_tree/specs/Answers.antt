@@ -9,6 +9,7 @@ use Rattle.ct_node.specs.declared.target.Target.{Target}
 use Rattle.ct_node.specs.declared.target.Target.TheVariants.{First, Last, At, Before}
 use Rattle.ct_node.specs.Nodes.{NodeValue, is_within, has_pair}
 use Rattle.ct_node.specs.Places.{is_ahead}
+use Rattle.ct_node.specs.Roles.{begins_at_low}
 use Rattle.ct_node.specs.declared.root.Mark.{Mark}
 use Rattle.ct_node.specs.Worlds.{World, no_mark}
 use Rattle.ct_tree_laws.specs.declared.walk.Walk.{Walk}
@@ -102,6 +103,7 @@ IsPutting (stage.Split page right) = Unit {0}
 IsPutting (stage.Cut page right) = Unit {0}
 IsPutting (stage.Share page above) = ⊥
 IsPutting (stage.Shared page above) = ⊥
+IsPutting (stage.Post separator rise) = Unit {0}
 IsPutting stage.Ended = ⊥
 
 -- a put or take has ended exactly where its turn says so
@@ -122,6 +124,7 @@ IsSearching above (stage.Split page right) = ⊥
 IsSearching above (stage.Cut page right) = ⊥
 IsSearching above (stage.Share page over) = over ≡ above
 IsSearching above (stage.Shared page over) = over ≡ above
+IsSearching above (stage.Post separator rise) = ⊥
 IsSearching above stage.Ended = ⊥
 
 -- the answer of a turn, with what a call that has ended tells
@@ -142,6 +145,7 @@ IsFinding (stage.Split page right) = ⊥
 IsFinding (stage.Cut page right) = ⊥
 IsFinding (stage.Share page above) = ⊥
 IsFinding (stage.Shared page above) = ⊥
+IsFinding (stage.Post separator rise) = ⊥
 IsFinding stage.Ended = ⊥
 
 -- the stages of a take that has not ended
@@ -155,6 +159,7 @@ IsTaking (stage.Split page right) = ⊥
 IsTaking (stage.Cut page right) = ⊥
 IsTaking (stage.Share page above) = ⊥
 IsTaking (stage.Shared page above) = ⊥
+IsTaking (stage.Post separator rise) = ⊥
 IsTaking stage.Ended = ⊥
 
 -- a take has ended exactly where its turn says so
@@ -195,6 +200,7 @@ IsSeeking above (stage.Split page right) = ⊥
 IsSeeking above (stage.Cut page right) = ⊥
 IsSeeking above (stage.Share page over) = over ≡ above
 IsSeeking above (stage.Shared page over) = ⊥
+IsSeeking above (stage.Post separator rise) = ⊥
 IsSeeking above stage.Ended = ⊥
 
 -- the edit that puts a pair bears the put's mark: where the pair is there already no edit is made; no other edit of a put bears a mark
@@ -216,3 +222,7 @@ BearsTaken mark (Done found) before now = now ≡ (if found then mark else befor
 BearsTaken mark More before now = now ≡ before
 BearsTaken mark (Busy op) before now = now ≡ before
 BearsTaken mark (Refused fault) before now = now ≡ before
+
+-- whether a node is an inner one that begins at its low bound, with keys as long as a pair's
+abbrev pub is_above_for : NodeValue → Pair → Bool
+is_above_for node pair = not node.leaf && node.key_len == length pair.key && begins_at_low node

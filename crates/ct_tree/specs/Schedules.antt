@@ -71,6 +71,7 @@ is_ended (stage.Split page right) = false
 is_ended (stage.Cut page right) = false
 is_ended (stage.Share page above) = false
 is_ended (stage.Shared page above) = false
+is_ended (stage.Post separator rise) = false
 is_ended stage.Ended = true
 
 -- all that these operations remember stands

@@ -121,6 +121,10 @@ pub(crate) fn find_leaf<N: Nodes>(walk: &Walk, stage: Stage, nodes: &mut N) -> (
         Stage::Cut { page: _, right: _ } => unreachable!(),
         Stage::Share { page: _, above: _ } => unreachable!(),
         Stage::Shared { page: _, above: _ } => unreachable!(),
+        Stage::Post {
+            separator: _,
+            rise: _,
+        } => unreachable!(),
         Stage::Ended => unreachable!(),
     }
 }

@@ -2,20 +2,23 @@
 #![tactic(auto)]
 
 mod begin;
+mod crown;
 mod descent;
 mod laws;
 mod memory;
+mod post;
 mod program;
 mod put;
 mod schedule;
 mod search;
 mod split;
+mod split_above;
 mod take;
 #[cfg(test)]
 mod tests;
 
 pub use begin::begins_in_memory;
-pub use ct_tree_laws::{Stage, Walk};
+pub use ct_tree_laws::{Rise, Separator, Stage, Walk};
 pub use laws::half_split_is_not_reached;
 pub use memory::run_in_memory;
 pub use program::{Answer, Happened, Program, turn};

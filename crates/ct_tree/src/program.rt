@@ -75,6 +75,10 @@ fn is_ended(stage: &Stage) -> bool
         Stage::Cut { page: _, right: _ } => false,
         Stage::Share { page: _, above: _ } => false,
         Stage::Shared { page: _, above: _ } => false,
+        Stage::Post {
+            separator: _,
+            rise: _,
+        } => false,
     }
 }
 

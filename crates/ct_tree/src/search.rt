@@ -124,6 +124,10 @@ fn find_shared<N: Nodes>(walk: &Walk, above: bool, stage: Stage, nodes: &mut N) 
         Stage::Split { page: _, right: _ } => unreachable!(),
         Stage::Cut { page: _, right: _ } => unreachable!(),
         Stage::Shared { page: _, above: _ } => unreachable!(),
+        Stage::Post {
+            separator: _,
+            rise: _,
+        } => unreachable!(),
         Stage::Ended => unreachable!(),
     }
 }

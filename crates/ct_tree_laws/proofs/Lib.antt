@@ -16,3 +16,9 @@ pub mod SearchTurns
 pub mod Finds
 pub mod NewTree
 pub mod HalfSplits
+pub mod PostingEdits
+pub mod PostingRoots
+pub mod PostingZeros
+pub mod PostingTurns
+pub mod PostingSplits
+pub mod PostingCrowns

@@ -2,6 +2,8 @@
 //! laws of its edits.
 #![tactic(auto)]
 
+mod rise;
 mod walk;
 
+pub use rise::{Rise, Separator};
 pub use walk::{Stage, Walk};

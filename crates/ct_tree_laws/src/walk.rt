@@ -1,5 +1,6 @@
 //! What an operation on a tree remembers between its turns.
 
+use crate::rise::{Rise, Separator};
 use ct_node::{Root, Target};
 
 /// An operation: its number, the index and what it looks for.
@@ -32,6 +33,8 @@ pub enum Stage {
     Share { page: u64, above: bool },
     /// The search has this leaf too.
     Shared { page: u64, above: bool },
+    /// The separator of a split is to be posted.
+    Post { separator: Separator, rise: Rise },
     /// The operation has ended.
     Ended,
 }
