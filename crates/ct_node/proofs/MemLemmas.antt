@@ -1,6 +1,5 @@
 -- Edits of pages in memory are those of their world.
-use Rattle.std.proofs.Common.{◌≡◌, ℕ, zero, suc, List, [], ◌∷◌, map, set, get_or, filter, not, Bool, Option, Some, None, refl, sym, ap, ◌∙◌}
-use Rattle.std.specs.Prelude.{slice_get}
+use Rattle.std.proofs.Common.{◌≡◌, ℕ, zero, suc, List, [], ◌∷◌, map, set, get_or, filter, not, Bool, Some, None, refl, sym, ap, ◌∙◌}
 use Rattle.std.proofs.lemmas.List.{map-set}
 use Rattle.ct_latch.specs.declared.hold.Hold.{Hold}
 use Rattle.ct_node.specs.declared.mem_nodes.MemPage.{MemPage}
@@ -9,7 +8,7 @@ use Rattle.ct_node.specs.declared.root.Owner.{Owner}
 use Rattle.ct_node.specs.declared.root.Root.{Root}
 use Rattle.ct_node.specs.declared.root.IndexRow.{IndexRow}
 use Rattle.ct_node.specs.Nodes.{NodeValue}
-use Rattle.ct_node.specs.Worlds.{World, PageValue, Blank, Defines, Holds, page_at, is_owner, edited, rooted, rooted_page, row_in}
+use Rattle.ct_node.specs.Worlds.{World, PageValue, Blank, Defines, Holds, is_owner, edited, rooted, rooted_page, row_in}
 use Rattle.ct_node.specs.MemWorlds.{page_value}
 
 -- the world of these pages

@@ -1,9 +1,8 @@
 -- What pages in memory are to operations.
-use Rattle.std.specs.Prelude.{ℕ, List, [], ◌∷◌, map, true, None}
+use Rattle.std.specs.Prelude.{ℕ, [], ◌∷◌, map, true, None}
 use Rattle.ct_node.specs.declared.mem_nodes.MemPage.{MemPage}
 use Rattle.ct_node.specs.declared.mem_nodes.MemPage.TheVariants.{Unwritten, Index, Tree}
 use Rattle.ct_node.specs.declared.mem_nodes.MemNodes.{MemNodes}
-use Rattle.ct_node.specs.declared.root.Owner.{Owner}
 use Rattle.ct_node.specs.Nodes.{NodeValue}
 use Rattle.ct_node.specs.Worlds.{World, PageValue, Blank, Defines, Holds}
 

@@ -1,5 +1,5 @@
 -- What a turn's answer says of the world and of faults.
-use Rattle.std.specs.Prelude.{◌≡◌, ℕ, ◌+◌, ◌-◌, ◌^◌, ◌≤◌, min, Option, Some, None}
+use Rattle.std.specs.Prelude.{◌≡◌, ℕ, Option, Some, None}
 use Rattle.ct_disk.specs.declared.turn.Turn.{Turn}
 use Rattle.ct_disk.specs.declared.turn.Turn.TheVariants.{Done, More, Busy, Refused}
 use Rattle.ct_disk.specs.declared.turn.StepFault.{StepFault}

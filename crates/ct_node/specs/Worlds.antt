@@ -1,15 +1,17 @@
 -- The pages that nodes stand in, who holds them, and the edits that an operation may make.
-use Rattle.std.specs.Prelude.{◌≡◌, ℕ, ◌+◌, ◌<◌, ◌≤◌, ◌==◌, List, [], ◌∷◌, ◌++◌, length, filter, slice_get, slice_index_or, slice_set, Bool, true, false, not, ◌&&◌, ◌||◌, Option, Some, None, IsTrue}
+use Rattle.std.specs.Prelude.{◌≡◌, ℕ, ◌≤◌, ◌==◌, List, [], ◌∷◌, ◌++◌, length, filter, slice_get, slice_index_or, slice_set, Bool, true, false, not, ◌&&◌, Option, Some, None}
 use Rattle.std.specs.List.{list_any}
 use Rattle.ct_latch.specs.declared.hold.Hold.{Hold}
 use Rattle.ct_latch.specs.Latches.{is_of}
-use Rattle.ct_definitions.specs.Pairs.{Pair}
+use Rattle.std.specs.Ordering.{is_lt}
+use Rattle.ct_definitions.specs.Pairs.{Pair, pair_cmp}
 use Rattle.ct_node.specs.declared.root.Root.{Root}
 use Rattle.ct_node.specs.declared.root.Mark.{Mark}
 use Rattle.ct_node.specs.declared.root.IndexRow.{IndexRow}
 use Rattle.ct_node.specs.declared.root.Owner.{Owner}
 use Rattle.ct_node.specs.Nodes.{Entry, NodeValue, IsNode, pairs_in, has_pair, is_within, with_entry, has_other_pair}
 use Rattle.ct_node.specs.Halves.{upper_half, lower_half}
+use Rattle.ct_node.specs.Roles.{first_of}
 
 -- what a definition page tells: its file, and a row for each index
 pub record DefinitionValue : Type 0 where
@@ -102,35 +104,93 @@ pub record TakesPair (op page : ℕ) (new : NodeValue) (w : World) : Type 0 wher
   pub sound : IsNode new
   pub made : new ≡ record node { entries = filter (has_other_pair pair) node.entries }
 
--- the upper half of a leaf, in a page of the operation that holds nothing yet
+-- the upper half of a node, in a page of the operation that holds nothing yet
 pub record WritesRight (op page : ℕ) (new : NodeValue) (w : World) : Type 0 where
   pub from : ℕ
   pub node : NodeValue
   pub held : IsHeld op from node w
-  pub leaf : node.leaf ≡ true
   pub enough : 2 ≤ length node.entries
   pub blank : page_at w page ≡ Blank
   pub mine : has_fresh op page w ≡ true
   pub made : new ≡ upper_half node
 
--- the lower half of a leaf, linked to the page that has the upper one
+-- the lower half of a node, linked to the page that has the upper one
 pub record CutsLeft (op page : ℕ) (new : NodeValue) (w : World) : Type 0 where
   pub node : NodeValue
   pub right : ℕ
   pub held : IsHeld op page node w
-  pub leaf : node.leaf ≡ true
   pub enough : 2 ≤ length node.entries
   pub sound : IsNode node
   pub mine : has_fresh op right w ≡ true
   pub upper : page_at w right ≡ Holds (upper_half node)
   pub made : new ≡ lower_half right node
 
--- the edits that an operation may make: one pair of a leaf that it has for itself, which may be a step of a transaction, and the two writes of a split
+-- the row of an index, where its definition page tells one
+abbrev pub row_in : ℕ → PageValue → Option IndexRow
+row_in index Blank = None
+row_in index (Defines def) = slice_get def.rows index
+row_in index (Holds node) = None
+
+-- links reach a node of the same tree that begins at a pair
+pub record IsBelow (child : ℕ) (low : Pair) (node below : NodeValue) (w : World) : Type 0 where
+  pub is : page_at w child ≡ Holds below
+  pub linked : is_fresh child w ≡ false
+  pub file : below.file ≡ node.file
+  pub index : below.index ≡ node.index
+  pub key_len : below.key_len ≡ node.key_len
+  pub from : below.low ≡ Some low
+
+-- an inner node with one more page below, which begins at its pair: above the node's first pair, and within its bounds
+pub record PostsChild (op page : ℕ) (new : NodeValue) (w : World) : Type 0 where
+  pub node : NodeValue
+  pub low : Pair
+  pub child : ℕ
+  pub below : NodeValue
+  pub first : Entry
+  pub rest : List Entry
+  pub held : IsHeld op page node w
+  pub inner : node.leaf ≡ false
+  pub key : length low.key ≡ node.key_len
+  pub entries : node.entries ≡ first ∷ rest
+  pub above : is_lt (pair_cmp first.pair low) ≡ true
+  pub absent : has_pair low (pairs_in node) ≡ false
+  pub within : is_within node.low node.high low ≡ true
+  pub there : IsBelow child low node below w
+  pub sound : IsNode new
+  pub made : new ≡ record node { entries = with_entry (record { pair = low; child = child }) node.entries }
+
+-- a new root, in a page of the operation that holds nothing yet, while it has the definition page for itself: its first page below is the old root, and its second one begins at its pair
+pub record WritesRoot (op page : ℕ) (new : NodeValue) (w : World) : Type 0 where
+  pub at : Root
+  pub row : IndexRow
+  pub first : Entry
+  pub second : Entry
+  pub old : NodeValue
+  pub below : NodeValue
+  pub is : row_in at.index (page_at w at.page) ≡ Some row
+  pub owned : has_own op at.page w ≡ true
+  pub blank : page_at w page ≡ Blank
+  pub mine : has_fresh op page w ≡ true
+  pub inner : new.leaf ≡ false
+  pub low : new.low ≡ None
+  pub high : new.high ≡ None
+  pub right : new.right ≡ 0
+  pub entries : new.entries ≡ first ∷ second ∷ []
+  pub is_first : first.pair ≡ first_of new.key_len None
+  pub is_old : first.child ≡ row.root
+  pub stood : page_at w first.child ≡ Holds old
+  pub of : (new.file ≡ old.file) × (new.index ≡ old.index) × (new.key_len ≡ old.key_len)
+  pub there : IsBelow second.child second.pair new below w
+  pub sound : IsNode new
+
+-- the edits that an operation may make: one pair of a leaf that it has for itself, which may be a step of a transaction, the two writes of a split, a page posted to an inner node, and a new root
 pub data Move (op page : ℕ) (new : NodeValue) (mark : Mark) (w : World) : Type 0 where
   Puts : PutsPair op page new w → Move op page new mark w
   Takes : TakesPair op page new w → Move op page new mark w
   Right : mark ≡ no_mark → WritesRight op page new w → Move op page new mark w
   Cuts : mark ≡ no_mark → CutsLeft op page new w → Move op page new mark w
+  Posts : mark ≡ no_mark → PostsChild op page new w → Move op page new mark w
+  Crowns : mark ≡ no_mark → WritesRoot op page new w → Move op page new mark w
 
 -- an operation has no page that is written and that no link reaches yet
 abbrev pub IsTidy : ℕ → World → Type 0
@@ -150,12 +210,6 @@ rooted_page index page (Holds node) = Holds node
 -- the world with another root of an index; that page is reached by a link from now on
 abbrev pub rooted : ℕ → Root → ℕ → World → World
 rooted op at page w = record w { pages = slice_set w.pages at.page (rooted_page at.index page (page_at w at.page)); fresh = filter (λ owner. not (is_owner op page owner)) w.fresh }
-
--- the row of an index, where its definition page tells one
-abbrev pub row_in : ℕ → PageValue → Option IndexRow
-row_in index Blank = None
-row_in index (Defines def) = slice_get def.rows index
-row_in index (Holds node) = None
 
 -- a new root may be named: the operation has the definition page for itself, and a page of its own with a node that leads to the old root first
 pub record RaisesRoot (op : ℕ) (at : Root) (page : ℕ) (w : World) : Type 0 where

@@ -1,7 +1,7 @@
 //! A node: its bounds, its right link and its entries, and the edits of one.
 
 ghost use Rattle.std.specs.Prelude.{◌≡◌, ℕ, ◌≤◌, ◌<◌, ◌+◌, ◌*◌, ◌-◌, [], ◌++◌, length, take, drop, replicate, filter, slice_get, slice_index, false, true, nat_lt, if◌then◌else◌, Some, None, IsSome, IfSome, IsTrue};
-ghost use Rattle.std.specs.List.{prefix_len};
+ghost use Rattle.std.specs.List.{All, prefix_len};
 ghost use Rattle.std.specs.Option.{option_map_or};
 ghost use Rattle.std.specs.Ordering.{is_eq};
 ghost use Rattle.ct_definitions.specs.Pairs.{pair_cmp, with_pair};
@@ -193,6 +193,7 @@ impl Node {
     pub fn count(&self) -> usize
         ensures count { result ≡ length self.now.entries }
         ensures node { IsNode self.now }
+        ensures keys { All (λ pair. length pair.key ≡ self.now.key_len) (pairs_in self.now) }
     {
         self.count
     }

@@ -1,10 +1,11 @@
 -- What is known where a call was done, and where it was not.
-use Rattle.std.proofs.Common.{◌≡◌, ℕ, Bool, true, false, ◌&&◌, eqb, length, Option, None, sym, refl, List, subst, ◌∙◌}
+use Rattle.std.proofs.Common.{◌≡◌, ℕ, Bool, true, false, ◌&&◌, eqb, length, Option, None, sym, refl, List, subst, ◌∙◌, ap, not}
 use Rattle.std.specs.Prelude.{IsTrue, ◌⊎◌}
 use Rattle.std.proofs.lemmas.Bool.{false≢true, true≢false, and_from, and_parts, eq-eqb, eqb-true}
 use Rattle.ct_latch.specs.declared.hold.Hold.{Hold}
 use Rattle.ct_definitions.specs.Pairs.{Pair}
 use Rattle.ct_node.specs.Nodes.{NodeValue, is_within}
+use Rattle.ct_node.specs.Roles.{begins_at_low}
 use Rattle.ct_disk.specs.declared.turn.HaltCause.{HaltCause}
 use Rattle.ct_disk.specs.declared.turn.Turn.{Turn}
 use Rattle.ct_disk.specs.declared.turn.Turn.TheVariants.{Done, More, Busy, Refused}
@@ -16,10 +17,14 @@ use Rattle.ct_tree_laws.specs.declared.walk.Stage.TheVariants as stage
 use Rattle.ct_tree_laws.specs.Stands.{KeepsKeys, Stands, Stepped, HasNone, StandsIn}
 use Rattle.ct_tree_laws.proofs.SearchTurns.{ended_none}
 use Rattle.ct_node.specs.Turns.{OnDone, OnBusy, After, LatchedBy, CausedTurn, Bears}
-use Rattle.ct_tree.specs.Answers.{is_done, is_for, PutsKeys, IsPutting, GoesOn, answer_with, TakeGoesOn, TakesKeys, TakenKeys, TellsTaken, IsTaken, TellsFound, IsFound, IsTaking, IsFinding, IsSearching, IsSeeking, BearsPut, BearsTake, BearsTaken, IsSearchingLeft, IsSearchingBy}
+use Rattle.ct_tree.specs.Answers.{is_done, is_for, PutsKeys, IsPutting, GoesOn, answer_with, TakeGoesOn, TakesKeys, TakenKeys, TellsTaken, IsTaken, TellsFound, IsFound, IsTaking, IsFinding, IsSearching, IsSeeking, BearsPut, BearsTake, BearsTaken, IsSearchingLeft, IsSearchingBy, is_above_for}
 use Rattle.ct_node.specs.declared.target.Target.{Target}
 use Rattle.ct_tree.specs.declared.seek.Seek.{Seek}
 use Rattle.ct_tree.specs.declared.seek.Seek.TheVariants.{AtOrAbove, Above, AtOrBelow, Below}
+
+-- the left side of an equation
+abbrev pub left_side : {X : Type 0} {a b : X} → a ≡ b → X
+left_side {a = a} is = a
 
 pub when_done : (turn : Turn (Unit {0})) (P : Unit {0} → Type 0) → is_done turn ≡ true → OnDone turn P → P tt
 when_done (Done answer) P done is = is
@@ -54,6 +59,10 @@ is_for_parts node pair is =
     let first = and_parts (node.leaf && eqb node.key_len (length pair.key)) (is_within node.low node.high pair) is in
     let second = and_parts node.leaf (eqb node.key_len (length pair.key)) first.0 in
     (second.0, sym (eqb-true node.key_len (length pair.key) second.1), first.1)
+
+-- a node that a separator may be posted to
+pub is_above_for_from : (node : NodeValue) (pair : Pair) → node.leaf ≡ false → node.key_len ≡ length pair.key → begins_at_low node ≡ true → is_above_for node pair ≡ true
+is_above_for_from node pair inner key begins = and_from (not node.leaf && eqb node.key_len (length pair.key)) (begins_at_low node) (and_from (not node.leaf) (eqb node.key_len (length pair.key)) (ap not inner) (eq-eqb node.key_len (length pair.key) key)) begins
 
 -- a turn that goes on changes no pair
 pub puts_going : (walk : Walk) (turn : Turn (Unit {0})) (w now : World) → is_done turn ≡ false → KeepsKeys w now → PutsKeys walk turn w now
@@ -149,6 +158,7 @@ finding_from (stage.Share page above) is other = is
 finding_from (stage.Shared page above) is other = is
 finding_from (stage.SharedLeft page) is other = is
 finding_from (stage.Left low or_at on) is other = is
+finding_from (stage.Post separator rise) is other = is
 finding_from stage.Ended is other = is
 
 pub seeking_from : (above : Bool) (at : Stage) → IsSearching above at → ((page : ℕ) (over : Bool) → at ≡ stage.Shared page over → ⊥) → IsSeeking above at
@@ -163,6 +173,7 @@ seeking_from above (stage.Share page over) is other = is
 seeking_from above (stage.Shared page over) is other = other page over refl
 seeking_from above (stage.SharedLeft page) is other = is
 seeking_from above (stage.Left low or_at on) is other = is
+seeking_from above (stage.Post separator rise) is other = is
 seeking_from above stage.Ended is other = is
 
 -- a search has no page that is written and reached by no link
@@ -178,6 +189,7 @@ search_tidy walk above (stage.Share page over) w is here = here.place.0
 search_tidy walk above (stage.Shared page over) w is here = here.place.0
 search_tidy walk above (stage.SharedLeft page) w is here = absurd is
 search_tidy walk above (stage.Left low or_at on) w is here = absurd is
+search_tidy walk above (stage.Post separator rise) w is here = absurd is
 search_tidy walk above stage.Ended w is here = absurd is
 
 pub left_tidy : (walk : Walk) (or_at : Bool) (at : Stage) (w : World) → IsSearchingLeft or_at at → StandsIn walk at w → IsTidy walk.op w
@@ -192,6 +204,7 @@ left_tidy walk or_at (stage.Share page above) w is here = absurd is
 left_tidy walk or_at (stage.Shared page above) w is here = absurd is
 left_tidy walk or_at (stage.SharedLeft page) w is here = here.place.0
 left_tidy walk or_at (stage.Left low over on) w is here = here.place.0
+left_tidy walk or_at (stage.Post separator rise) w is here = absurd is
 left_tidy walk or_at stage.Ended w is here = absurd is
 
 pub tidy_by : (walk : Walk) (seek : Seek) (at : Stage) (w : World) → IsSearchingBy seek at → StandsIn walk at w → IsTidy walk.op w
@@ -223,6 +236,7 @@ left_finding or_at (stage.Share page above) is = absurd is
 left_finding or_at (stage.Shared page above) is = absurd is
 left_finding or_at (stage.SharedLeft page) is = absurd is
 left_finding or_at (stage.Left low over on) is = absurd is
+left_finding or_at (stage.Post separator rise) is = absurd is
 left_finding or_at stage.Ended is = absurd is
 
 -- what holds after one call and after the next

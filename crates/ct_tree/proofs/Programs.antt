@@ -27,6 +27,7 @@ stage_ended (stage.Share page above) is = absurd (false≢true is)
 stage_ended (stage.Shared page above) is = absurd (false≢true is)
 stage_ended (stage.SharedLeft page) is = absurd (false≢true is)
 stage_ended (stage.Left low or_at on) is = absurd (false≢true is)
+stage_ended (stage.Post separator rise) is = absurd (false≢true is)
 stage_ended stage.Ended is = refl
 
 -- one of the two, where the stage is not the last

@@ -9,6 +9,7 @@ use Rattle.ct_node.specs.declared.target.Target.{Target}
 use Rattle.ct_node.specs.declared.target.Target.TheVariants.{First, Last, At, Before}
 use Rattle.ct_node.specs.Nodes.{NodeValue, is_within, has_pair}
 use Rattle.ct_node.specs.Places.{is_ahead}
+use Rattle.ct_node.specs.Roles.{begins_at_low}
 use Rattle.ct_node.specs.declared.root.Mark.{Mark}
 use Rattle.ct_node.specs.Worlds.{World, no_mark}
 use Rattle.ct_tree_laws.specs.declared.walk.Walk.{Walk}
@@ -117,6 +118,7 @@ IsPutting (stage.Share page above) = ⊥
 IsPutting (stage.Shared page above) = ⊥
 IsPutting (stage.SharedLeft page) = ⊥
 IsPutting (stage.Left low or_at way) = ⊥
+IsPutting (stage.Post separator rise) = Unit {0}
 IsPutting stage.Ended = ⊥
 
 -- a put or take has ended exactly where its turn says so
@@ -139,6 +141,7 @@ IsSearching above (stage.Share page over) = over ≡ above
 IsSearching above (stage.Shared page over) = over ≡ above
 IsSearching above (stage.SharedLeft page) = ⊥
 IsSearching above (stage.Left low or_at way) = ⊥
+IsSearching above (stage.Post separator rise) = ⊥
 IsSearching above stage.Ended = ⊥
 
 -- the stages of a search to the left that has not ended
@@ -154,6 +157,7 @@ IsSearchingLeft or_at (stage.Share page above) = ⊥
 IsSearchingLeft or_at (stage.Shared page above) = ⊥
 IsSearchingLeft or_at (stage.SharedLeft page) = Unit {0}
 IsSearchingLeft or_at (stage.Left low over way) = over ≡ or_at
+IsSearchingLeft or_at (stage.Post separator rise) = ⊥
 IsSearchingLeft or_at stage.Ended = ⊥
 
 -- the stages of a search that has not ended
@@ -183,6 +187,7 @@ IsFinding (stage.Share page above) = ⊥
 IsFinding (stage.Shared page above) = ⊥
 IsFinding (stage.SharedLeft page) = ⊥
 IsFinding (stage.Left low or_at way) = ⊥
+IsFinding (stage.Post separator rise) = ⊥
 IsFinding stage.Ended = ⊥
 
 -- the stages of a take that has not ended
@@ -198,6 +203,7 @@ IsTaking (stage.Share page above) = ⊥
 IsTaking (stage.Shared page above) = ⊥
 IsTaking (stage.SharedLeft page) = ⊥
 IsTaking (stage.Left low or_at way) = ⊥
+IsTaking (stage.Post separator rise) = ⊥
 IsTaking stage.Ended = ⊥
 
 -- a take has ended exactly where its turn says so
@@ -240,6 +246,7 @@ IsSeeking above (stage.Share page over) = over ≡ above
 IsSeeking above (stage.Shared page over) = ⊥
 IsSeeking above (stage.SharedLeft page) = ⊥
 IsSeeking above (stage.Left low or_at way) = ⊥
+IsSeeking above (stage.Post separator rise) = ⊥
 IsSeeking above stage.Ended = ⊥
 
 -- the edit that puts a pair bears the put's mark: where the pair is there already no edit is made; no other edit of a put bears a mark
@@ -261,3 +268,7 @@ BearsTaken mark (Done found) before now = now ≡ (if found then mark else befor
 BearsTaken mark More before now = now ≡ before
 BearsTaken mark (Busy op) before now = now ≡ before
 BearsTaken mark (Refused fault) before now = now ≡ before
+
+-- whether a node is an inner one that begins at its low bound, with keys as long as a pair's
+abbrev pub is_above_for : NodeValue → Pair → Bool
+is_above_for node pair = not node.leaf && node.key_len == length pair.key && begins_at_low node

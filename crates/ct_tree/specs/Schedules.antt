@@ -74,6 +74,7 @@ is_ended (stage.Share page above) = false
 is_ended (stage.Shared page above) = false
 is_ended (stage.SharedLeft page) = false
 is_ended (stage.Left low or_at way) = false
+is_ended (stage.Post separator rise) = false
 is_ended stage.Ended = true
 
 -- all that these operations remember stands

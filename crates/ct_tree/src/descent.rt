@@ -129,6 +129,10 @@ pub(crate) fn find_leaf<N: Nodes>(walk: &Walk, stage: Stage, nodes: &mut N) -> (
             or_at: _,
             way: _,
         } => unreachable!(),
+        Stage::Post {
+            separator: _,
+            rise: _,
+        } => unreachable!(),
         Stage::Ended => unreachable!(),
     }
 }

@@ -48,6 +48,10 @@ pub(crate) fn left_step<N: Nodes>(
         Stage::Cut { page: _, right: _ } => unreachable!(),
         Stage::Share { page: _, above: _ } => unreachable!(),
         Stage::Shared { page: _, above: _ } => unreachable!(),
+        Stage::Post {
+            separator: _,
+            rise: _,
+        } => unreachable!(),
         Stage::Ended => unreachable!(),
     }
 }

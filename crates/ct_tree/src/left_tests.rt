@@ -61,12 +61,12 @@ fn run_to_end(program: &mut Program, nodes: &mut MemNodes) -> bool
 }
 
 /// Puts a pair; whether that ended.
-fn put(nodes: &mut MemNodes, op: u64, target: Target) -> bool
+fn put(alloc: Global, nodes: &mut MemNodes, op: u64, target: Target) -> bool
     requires pair { IsPair target }
     requires damaged { (world_of nodes.old).founded ≡ false }
     ensures damaged { (world_of nodes.new).founded ≡ false }
 {
-    let put = Put::new(op, INDEX, target, Mark::NONE);
+    let put = Put::new(alloc, op, INDEX, target, Mark::NONE);
     run_to_end(&mut Program::Put(put), nodes)
 }
 
@@ -118,7 +118,7 @@ fn put_falling(
     ensures damaged { (world_of nodes.new).founded ≡ false }
 {
     for n in 0..count {
-        put(nodes, 1, target_of(alloc, count - n, key_len, 7)?);
+        put(alloc, nodes, 1, target_of(alloc, count - n, key_len, 7)?);
     }
     Ok(())
 }
@@ -232,7 +232,7 @@ fn put_rising(alloc: Global, nodes: &mut MemNodes, number: u32, count: u64) -> R
 {
     let mut last = 7;
     for num in 8..count {
-        if put(nodes, 3, target_of(alloc, number, 128, num)?) {
+        if put(alloc, nodes, 3, target_of(alloc, number, 128, num)?) {
             last = num;
         }
     }

@@ -2,24 +2,27 @@
 #![tactic(auto)]
 
 mod begin;
+mod crown;
 mod descent;
 mod laws;
 mod left;
 #[cfg(test)]
 mod left_tests;
 mod memory;
+mod post;
 mod program;
 mod put;
 mod schedule;
 mod search;
 mod seek;
 mod split;
+mod split_above;
 mod take;
 #[cfg(test)]
 mod tests;
 
 pub use begin::begins_in_memory;
-pub use ct_tree_laws::{Stage, Walk, Way};
+pub use ct_tree_laws::{Rise, Separator, Stage, Walk, Way};
 pub use laws::half_split_is_not_reached;
 pub use memory::run_in_memory;
 pub use program::{Answer, Happened, Program, turn};

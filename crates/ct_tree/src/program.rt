@@ -81,6 +81,10 @@ fn is_ended(stage: &Stage) -> bool
             or_at: _,
             way: _,
         } => false,
+        Stage::Post {
+            separator: _,
+            rise: _,
+        } => false,
     }
 }
 

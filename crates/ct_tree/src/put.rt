@@ -8,15 +8,18 @@ ghost use Rattle.ct_tree_laws.specs.Stands.{Stands, Stepped, HasNone};
 ghost use Rattle.ct_tree.specs.Answers.{IsPair, PutsKeys, IsInTheWay, IsPutting, GoesOn, BearsPut};
 
 use crate::descent::{descend, is_done, is_for, own_leaf, start};
+use crate::post::post;
 use crate::split::{allocate, cut_left, write_right};
 use ct_disk::Turn;
 use ct_node::{Mark, Node, Nodes, Place, Root, Target};
 use ct_tree_laws::{Stage, Walk};
+use std::alloc::Global;
 use std::mem::replace;
 
 /// Puts one pair into an index, in turns. A pair that is there already is left as it is.
 #[derive(Drop)]
 pub struct Put {
+    alloc: Global,
     pub walk: Walk,
     pub mark: Mark,
     pub stage: Stage,
@@ -24,13 +27,15 @@ pub struct Put {
 
 impl Put {
     /// A put of the pair that the target is. The edit that puts it bears the mark, and no other does.
-    pub fn new(op: u64, at: Root, target: Target, mark: Mark) -> Put
+    /// It takes no memory.
+    pub fn new(alloc: Global, op: u64, at: Root, target: Target, mark: Mark) -> Put
         requires { IsPair target }
         ensures walk { result.walk ≡ record { op = op; at = at; target = target } }
         ensures mark { result.mark ≡ mark }
         ensures stage { result.stage ≡ Stage.Start }
     {
         Put {
+            alloc,
             walk: Walk { op, at, target },
             mark,
             stage: Stage::Start,
@@ -55,14 +60,20 @@ impl Put {
         ensures cause { CausedTurn result (N.faults nodes.old) (N.faults nodes.new) (N.halted nodes.old) (N.halted nodes.new) }
     {
         let stage = replace(&mut self.stage, Stage::Ended);
-        let step = put_step(&self.walk, self.mark, stage, nodes);
+        let step = put_step(self.alloc, &self.walk, self.mark, stage, nodes);
         self.stage = step.0;
         step.1
     }
 }
 
 /// The turn of a put at a stage.
-fn put_step<N: Nodes>(walk: &Walk, mark: Mark, stage: Stage, nodes: &mut N) -> (Stage, Turn<()>)
+fn put_step<N: Nodes>(
+    alloc: Global,
+    walk: &Walk,
+    mark: Mark,
+    stage: Stage,
+    nodes: &mut N,
+) -> (Stage, Turn<()>)
     requires stands { Stands walk.now stage (N.world nodes.old) }
     requires pair { IsPair walk.now.target }
     requires open { IsPutting stage }
@@ -81,7 +92,8 @@ fn put_step<N: Nodes>(walk: &Walk, mark: Mark, stage: Stage, nodes: &mut N) -> (
         Stage::Held { page } => return put_held(walk, mark, nodes, page),
         Stage::Full { page } => return allocate(walk, nodes, page),
         Stage::Split { page, right } => return write_right(walk, nodes, page, right),
-        Stage::Cut { page, right } => return cut_left(walk, nodes, page, right),
+        Stage::Cut { page, right } => return cut_left(alloc, walk, nodes, page, right),
+        Stage::Post { separator, rise } => return post(alloc, walk, nodes, separator, rise),
         Stage::Share { page: _, above: _ } => unreachable!(),
         Stage::Shared { page: _, above: _ } => unreachable!(),
         Stage::SharedLeft { page: _ } => unreachable!(),

@@ -183,6 +183,10 @@ fn find_shared<N: Nodes>(walk: &Walk, above: bool, stage: Stage, nodes: &mut N) 
             or_at: _,
             way: _,
         } => unreachable!(),
+        Stage::Post {
+            separator: _,
+            rise: _,
+        } => unreachable!(),
         Stage::Ended => unreachable!(),
     }
 }

@@ -10,7 +10,8 @@ ghost use Rattle.ct_tree.specs.Answers.{is_done, IsInTheWay, IsPutting};
 use crate::descent::is_done;
 use ct_disk::Turn;
 use ct_node::{Mark, Node, Nodes};
-use ct_tree_laws::{Stage, Walk};
+use ct_tree_laws::{Rise, Separator, Stage, Walk};
+use std::alloc::Global;
 
 /// Allocates the page of the right half.
 pub(crate) fn allocate<N: Nodes>(walk: &Walk, nodes: &mut N, page: u64) -> (Stage, Turn<()>)
@@ -64,8 +65,10 @@ pub(crate) fn write_right<N: Nodes>(
     (Stage::Cut { page, right }, Turn::More)
 }
 
-/// Cuts the left node, and gives it back: its right link leads to the page that was written.
+/// Cuts the left node, and gives it back: its right link leads to the page that was written. The
+/// separator is to be posted then.
 pub(crate) fn cut_left<N: Nodes>(
+    alloc: Global,
     walk: &Walk,
     nodes: &mut N,
     page: u64,
@@ -88,11 +91,23 @@ pub(crate) fn cut_left<N: Nodes>(
     if node.count() < 2 {
         return (Stage::Cut { page, right }, Turn::Refused(nodes.bad(page)));
     }
+    let low = node.pair(alloc, node.count() / 2);
     node.cut(right);
     let edited = nodes.edit(walk.op, page, &node, Mark::NONE);
     if !is_done(&edited) {
         return (Stage::Cut { page, right }, edited);
     }
     nodes.free(walk.op, page);
-    (Stage::Start, Turn::More)
+    let separator = Separator {
+        low,
+        child: right,
+        left: page,
+    };
+    (
+        Stage::Post {
+            separator,
+            rise: Rise::Root,
+        },
+        Turn::More,
+    )
 }

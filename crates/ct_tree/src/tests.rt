@@ -30,7 +30,7 @@ fn puts(alloc: Global, count: u8) -> Result<Vec<Program>, NoMemory>
     let mut programs = Vec::new(alloc);
     for n in 0..count {
         let pair = pair_of(alloc, 255 - n, 7)?;
-        let put = Put::new(u64::from(n), FIRST, Target::At(pair), Mark::NONE);
+        let put = Put::new(alloc, u64::from(n), FIRST, Target::At(pair), Mark::NONE);
         programs.push(Program::Put(put))?;
     }
     Ok(programs)

@@ -1,16 +1,14 @@
 -- Where a leaf stands in the chain of leaves: all pairs before it are below it, and all behind it above.
-use Rattle.std.proofs.Common.{◌≡◌, ℕ, zero, suc, ◌+◌, ◌<◌, ◌≤◌, Bool, true, false, not, ◌&&◌, ◌||◌, cond, List, [], ◌∷◌, ◌++◌, length, refl, sym, ap, ◌∙◌, arith, filter, subst, inl, inr, ⊎_elim, Option, Some, None}
-use Rattle.std.specs.Prelude.{◌⊎◌, flat_map}
-use Rattle.std.specs.List.{All, AllPass}
+use Rattle.std.proofs.Common.{◌≡◌, ℕ, Bool, true, false, not, List, [], ◌∷◌, ◌++◌, refl, sym, ap, ◌∙◌, subst, inl, inr, ⊎_elim, Option, Some, None}
+use Rattle.std.specs.List.{All}
 use Rattle.std.specs.Ordering.{is_lt}
-use Rattle.std.proofs.lemmas.Bool.{cases_Bool, false≢true, and_parts, not-true, not_from_false, false_from_ne_true}
+use Rattle.std.proofs.lemmas.Bool.{cases_Bool, false≢true, and_parts, not-true, false_from_ne_true}
 use Rattle.std.proofs.lemmas.Cmp.{tied_itself}
-use Rattle.std.proofs.lemmas.List.{append_assoc}
-use Rattle.std.proofs.lemmas.List.Elements.{All-nil, All-cons, All-append, All-weaker, All-head, All-tail}
-use Rattle.ct_definitions.specs.Pairs.{Pair, pair_cmp}
-use Rattle.ct_node.specs.Nodes.{NodeValue, IsNode, pairs_in, is_from, is_below, is_within}
-use Rattle.ct_node.specs.Worlds.{World, PageValue, Blank, Defines, Holds, page_at, is_fresh}
-use Rattle.ct_node.proofs.Orders.{below, same, below-trans, below_same, same_back, above, not_above, pair_total}
+use Rattle.std.proofs.lemmas.List.Elements.{All-nil, All-append, All-weaker}
+use Rattle.ct_definitions.specs.Pairs.{Pair}
+use Rattle.ct_node.specs.Nodes.{NodeValue, pairs_in, is_from, is_below, is_within}
+use Rattle.ct_node.specs.Worlds.{World, Holds, page_at, is_fresh}
+use Rattle.ct_node.proofs.Orders.{below, same, below-trans, below_same, same_back, above, pair_total}
 use Rattle.ct_tree_laws.specs.Trees.{Tree, IsOf, IsAt, Link, link_by, link_of, link_in, Rises, IsInRole, Linked, IsAmong, pairs_in_page, pairs_at, joined}
 
 -- a link, by its parts

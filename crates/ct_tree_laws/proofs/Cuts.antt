@@ -1,25 +1,27 @@
 -- The left node of a split is cut: the right page comes behind it in the chain.
-use Rattle.std.proofs.Common.{◌≡◌, ℕ, zero, suc, ◌+◌, ◌/◌, ◌<◌, ◌≤◌, Bool, true, false, not, ◌&&◌, cond, List, [], ◌∷◌, ◌++◌, length, get_or, take, drop, map, eqb, refl, sym, ap, ◌∙◌, arith, filter, subst, inl, inr, ⊎_elim, Option, Some, None}
-use Rattle.std.specs.Prelude.{◌⊎◌, flat_map, slice_get, if◌then◌else◌, ◌==◌}
-use Rattle.std.specs.List.{All, AllPass}
-use Rattle.std.proofs.lemmas.Bool.{cases_Bool, cases_eq, false≢true, true≢false, and_parts, not-true, eqb-true, eqb-false, eq-eqb, ne_eqb, or_from}
+use Rattle.std.proofs.Common.{◌≡◌, ℕ, zero, suc, ◌<◌, ◌≤◌, Bool, true, false, not, cond, List, [], ◌∷◌, ◌++◌, length, get_or, take, drop, map, eqb, refl, sym, ap, ◌∙◌, arith, subst, inl, inr, ⊎_elim, Option, Some, None}
+use Rattle.std.specs.Prelude.{◌⊎◌, slice_get}
+use Rattle.std.specs.List.{All}
+use Rattle.std.proofs.lemmas.Bool.{cases_Bool, cases_eq, false≢true, and_parts, not-true, eqb-true, eqb-false, eq-eqb}
 use Rattle.std.proofs.lemmas.List.{append_assoc, get_or_default, length-map, take-map, drop-map, take-append-drop}
-use Rattle.std.specs.Ordering.{is_lt, is_eq}
+use Rattle.std.proofs.lemmas.List.Elements.{All-head, All-tail, All-take}
+use Rattle.std.proofs.lemmas.Cmp.{tied_itself}
+use Rattle.std.specs.Ordering.{is_eq}
 use Rattle.ct_node.specs.declared.root.Root.{Root}
 use Rattle.ct_node.specs.declared.target.Target.{Target}
 use Rattle.ct_node.specs.declared.target.Target.TheVariants.{First, Last, At, Before}
 use Rattle.ct_definitions.specs.Pairs.{Pair, pair_cmp}
 use Rattle.ct_node.specs.Nodes.{Entry, NodeValue, IsNode, pair_in, pairs_in, is_from, is_below, is_within}
+use Rattle.ct_node.specs.Roles.{first_of}
 use Rattle.ct_node.specs.Halves.{middle_of, upper_half, lower_half}
-use Rattle.ct_node.specs.Places.{is_ahead, is_past}
-use Rattle.ct_node.specs.Worlds.{World, PageValue, Blank, Defines, Holds, DefinitionValue, page_at, has_latch, has_own, has_fresh, is_fresh, edited, IsHeld, CutsLeft}
-use Rattle.ct_node.proofs.Orders.{below, same, same_back, same_below, below-trans, above}
+use Rattle.ct_node.specs.Places.{is_past}
+use Rattle.ct_node.specs.Worlds.{World, Defines, Holds, page_at, has_latch, has_fresh, is_fresh, edited, IsHeld}
+use Rattle.ct_node.proofs.Orders.{below, same, same_back, same_below, below-trans, above, pair_total}
 use Rattle.ct_node.proofs.HalfLemmas.{middle_within, IsNode-upper_half, IsNode-lower_half}
 use Rattle.ct_node.proofs.Searches.{slice_get-at}
-use Rattle.ct_tree_laws.specs.Trees.{Tree, IsOf, IsAt, Link, link_of, link_in, Rises, IsInRole, IsTree, IsApart, IsAmong, Linked, IsLeaf, IsLower, IsClear, HasPassed, pairs_in_page, pairs_at, joined}
-use Rattle.ct_tree_laws.proofs.Taking.{has_latch_from_own}
+use Rattle.ct_tree_laws.specs.Trees.{Tree, IsOf, IsAt, Link, link_of, link_in, Rises, IsInner, IsInRole, IsTree, IsApart, IsAmong, Linked, IsLower, IsClear, HasPassed, pairs_in_page, pairs_at, joined}
 use Rattle.ct_tree_laws.proofs.Pages.{page_within, page_at-edited, page_at-edited_other, stays_linked, is_fresh-edited, has_fresh-edited, is_fresh_from, is_linked-edited, IsApart-edited}
-use Rattle.ct_tree_laws.proofs.Kept.{KeepsAt, IsReached, IsInRole-kept}
+use Rattle.ct_tree_laws.proofs.Kept.{KeepsAt, IsReached, IsInner-kept, IsInRole-kept}
 use Rattle.ct_tree_laws.proofs.Steps.{IsStep}
 use Rattle.ct_tree_laws.proofs.Chains.{one_node, link_to, Roles}
 use Rattle.ct_tree_laws.proofs.Edits.{not_latched_held, not_theirs_held}
@@ -38,9 +40,12 @@ pub middle_told : (node : NodeValue) → 2 ≤ length node.entries → slice_get
 unfolding middle_pair
 middle_told node enough = slice_get-at (pairs_in node) (middle_of node) no_pair (middle_within node enough)
 
-middle_is : (node : NodeValue) → 2 ≤ length node.entries → (d : Pair) → get_or (pairs_in node) (middle_of node) d ≡ middle_pair node
+pub middle_is : (node : NodeValue) → 2 ≤ length node.entries → (d : Pair) → get_or (pairs_in node) (middle_of node) d ≡ middle_pair node
 unfolding middle_pair
 middle_is node enough d = get_or_default (pairs_in node) (middle_of node) d no_pair (middle_within node enough)
+
+pub same_itself : (pair : Pair) → same pair pair ≡ true
+same_itself pair = ap is_eq (tied_itself pair_total pair)
 
 rises_over : (low : Option Pair) (first middle : Pair) → is_from low first ≡ true → below first middle ≡ true → Rises low (Some middle)
 rises_over None first middle from up = tt
@@ -83,6 +88,61 @@ link_of-lower right node enough = ap (link_at right) (middle_told node enough)
     link_at right None = None
     link_at right (Some high) = link_to (Some high) right
 
+-- what stands behind some of the entries of a list
+record Behind (P : Entry → Type 0) (entries : List Entry) (k : ℕ) : Type 0 where
+  pub next : Entry
+  pub more : List Entry
+  pub is : drop k entries ≡ next ∷ more
+  pub here : P next
+  pub later : All P more
+  pub pair : (d : Pair) → get_or (map pair_in entries) k d ≡ next.pair
+
+behind : (P : Entry → Type 0) (entries : List Entry) (k : ℕ) → k < length entries → All P entries → Behind P entries k
+behind P [] k within all = absurd (omega (arith, within))
+behind P (entry ∷ entries) zero within all = record { next = entry; more = entries; is = refl; here = All-head P entry entries all; later = All-tail P entry entries all; pair = λ d. refl }
+behind P (entry ∷ entries) (suc k) within all =
+    let rest = behind P entries k (omega (arith, within)) (All-tail P entry entries all) in
+    record { next = rest.next; more = rest.more; is = rest.is; here = rest.here; later = rest.later; pair = rest.pair }
+
+pub lower_inner : (w : World) (t : Tree) (right : ℕ) (node : NodeValue) → 2 ≤ length node.entries → IsInner w t node → IsInner w t (lower_half right node)
+lower_inner w t right node enough inner = by_middle (middle_of node) refl
+  where
+    P : Entry → Type 0
+    P entry = (leaf : Bool) × IsAt w t leaf (Some entry.pair) entry.child
+
+    by_middle : (m : ℕ) → middle_of node ≡ m → IsInner w t (lower_half right node)
+    by_middle zero is = absurd (omega (arith, enough, is))
+    by_middle (suc k) is = record {
+      first = inner.first;
+      rest = take k inner.rest;
+      is = ap (λ m. take m node.entries) is ∙ ap (take (suc k)) inner.is;
+      begins = inner.begins;
+      least = inner.least;
+      others = All-take P k inner.rest inner.others;
+    }
+
+pub upper_inner : (w : World) (t : Tree) (node : NodeValue) → 2 ≤ length node.entries → IsInner w t node → IsInner w t (upper_half node)
+upper_inner w t node enough inner = by_middle (middle_of node) refl
+  where
+    P : Entry → Type 0
+    P entry = (leaf : Bool) × IsAt w t leaf (Some entry.pair) entry.child
+
+    by_middle : (m : ℕ) → middle_of node ≡ m → IsInner w t (upper_half node)
+    by_middle zero is = absurd (omega (arith, enough, is))
+    by_middle (suc k) is =
+        let long : length node.entries ≡ suc (length inner.rest) = ap length inner.is in
+        let found = behind P inner.rest k (omega (arith, enough, is, long)) inner.others in
+        let low : (upper_half node).low ≡ Some found.next.pair =
+        middle_told node enough ∙ ap Some (sym (middle_is node enough no_pair) ∙ ap (λ m. get_or (pairs_in node) m no_pair) is ∙ ap (λ es. get_or (map pair_in es) (suc k) no_pair) inner.is ∙ found.pair no_pair) in
+        record {
+          first = found.next;
+          rest = found.more;
+          is = ap (λ m. drop m node.entries) is ∙ ap (drop (suc k)) inner.is ∙ found.is;
+          begins = subst (λ bound. is_eq (pair_cmp found.next.pair (first_of node.key_len bound)) ≡ true) (sym low) (same_itself found.next.pair);
+          least = (found.here.0, subst (λ bound. IsAt w t found.here.0 bound found.next.child) (sym low) found.here.1);
+          others = found.later;
+        }
+
 -- the leaves with a new one behind another
 pub inserted : ℕ → ℕ → List ℕ → List ℕ
 inserted page right [] = []
@@ -119,7 +179,7 @@ is_past-lower (At pair) lower high up past = ap not (not_below_over_at pair lowe
     not_below_over_at pair lower high up not_low = ⊎_elim (λ low. absurd (false≢true (sym not_low ∙ below-trans pair lower high low up))) (λ no. no) (cases_Bool (below pair lower))
 is_past-lower (Before pair) lower high up past = below-trans lower high pair up past
 
-module _ (op page right : ℕ) (node : NodeValue) (w : World) (apart : IsApart w) (held : IsHeld op page node w) (leaf : node.leaf ≡ true) (enough : 2 ≤ length node.entries) (mine : has_fresh op right w ≡ true) (upper : page_at w right ≡ Holds (upper_half node)) where
+module _ (op page right : ℕ) (node : NodeValue) (w : World) (apart : IsApart w) (held : IsHeld op page node w) (enough : 2 ≤ length node.entries) (mine : has_fresh op right w ≡ true) (upper : page_at w right ≡ Holds (upper_half node)) where
   now : World
   now = edited op page (lower_half right node) w
 
@@ -185,6 +245,7 @@ module _ (op page right : ℕ) (node : NodeValue) (w : World) (apart : IsApart w
           let key_len : node.key_len ≡ t.key_len = sym (ap (λ (v : NodeValue). v.key_len) same_node) ∙ at.key_len in
           let old : link_in (page_at w q) ≡ link_of node = ap link_in (ap (page_at w) one ∙ held.is) in
           let behind : Linked (edited op page (lower_half right node) w) t (link_in (page_at (edited op page (lower_half right node) w) right)) (inserted page right pages) = subst (λ next. Linked (edited op page (lower_half right node) w) t next (inserted page right pages)) (old ∙ sym link_in-there) rest in
+          let leaf : node.leaf ≡ true = sym (ap (λ (v : NodeValue). v.leaf) same_node) ∙ at.kind in
           let right_is : IsAt (edited op page (lower_half right node) w) t true (Some (middle_pair node)) right = subst (λ kind. IsAt (edited op page (lower_half right node) w) t kind (Some (middle_pair node)) right) leaf (right_at t of key_len) in
           (linked.0, linked.1, KeepsAt-cut t true linked.0 q at, (Some (middle_pair node), ap (λ p. link_in (page_at (edited op page (lower_half right node) w) p)) one ∙ link_in-here, right_is, behind))
       by_test rest false is =
@@ -217,7 +278,7 @@ module _ (op page right : ℕ) (node : NodeValue) (w : World) (apart : IsApart w
             let same : link_to (Some (middle_pair node)) right ≡ Some link = sym (link_of-lower right node enough) ∙ is in
             let one : record { low = Some (middle_pair node); page = right } ≡ link = cc in
             subst (λ (l : Link). IsAt (edited op page (lower_half right node) w) t node.leaf l.low l.page) one (right_at t of role.key_len);
-        inner = λ inner. absurd (true≢false (sym leaf ∙ inner));
+        inner = λ inner. lower_inner (edited op page (lower_half right node) w) t right node enough (IsInner-kept w (edited op page (lower_half right node) w) t node KeepsAt-cut (role.inner inner));
       }
 
   upper_role : (t : Tree) → Roles w t → IsOf t node → IsInRole (edited op page (lower_half right node) w) t (upper_half node)
@@ -229,7 +290,7 @@ module _ (op page right : ℕ) (node : NodeValue) (w : World) (apart : IsApart w
         rises = subst (λ low. Rises low node.high) (sym (low-upper node enough)) (middle_below node role.node_is enough);
         last = role.last;
         right = λ link is. KeepsAt-cut t node.leaf link.low link.page (role.right link is);
-        inner = λ inner. absurd (true≢false (sym leaf ∙ inner));
+        inner = λ inner. upper_inner (edited op page (lower_half right node) w) t node enough (IsInner-kept w (edited op page (lower_half right node) w) t node KeepsAt-cut (role.inner inner));
       }
 
   Roles-cut : (t : Tree) → Roles w t → Roles (edited op page (lower_half right node) w) t
@@ -246,10 +307,10 @@ module _ (op page right : ℕ) (node : NodeValue) (w : World) (apart : IsApart w
       by_page : ((q ≡ page) × (v ≡ lower_half right node)) ⊎ (((q ≡ right) × (v ≡ upper_half node)) ⊎ IsReached w q v) → IsAmong q (inserted page right leaves)
       by_page (inl (one, same)) =
           let of_node : IsOf t node = let halves = subst (IsOf t) same of in record { file = halves.file; index = halves.index } in
-          subst (λ p. IsAmong p (inserted page right leaves)) (sym one) (IsAmong-inserted page right leaves page (all page node held.is of_node leaf held.linked))
+          subst (λ p. IsAmong p (inserted page right leaves)) (sym one) (IsAmong-inserted page right leaves page (all page node held.is of_node (sym (ap (λ (u : NodeValue). u.leaf) same) ∙ kind) held.linked))
       by_page (inr (inl (one, same))) =
           let of_node : IsOf t node = let halves = subst (IsOf t) same of in record { file = halves.file; index = halves.index } in
-          subst (λ p. IsAmong p (inserted page right leaves)) (sym one) (right_among-inserted page right leaves (all page node held.is of_node leaf held.linked))
+          subst (λ p. IsAmong p (inserted page right leaves)) (sym one) (right_among-inserted page right leaves (all page node held.is of_node (sym (ap (λ (u : NodeValue). u.leaf) same) ∙ kind) held.linked))
       by_page (inr (inr before)) = IsAmong-inserted page right leaves q (all q v before.is of kind before.linked)
 
   pub IsTree-cut : (at : Root) (t : Tree) (leaves : List ℕ) → IsTree w at t leaves → IsTree (edited op page (lower_half right node) w) at t (inserted page right leaves)
@@ -271,8 +332,8 @@ module _ (op page right : ℕ) (node : NodeValue) (w : World) (apart : IsApart w
   HasPassed-cut : (other : ℕ) (t : Tree) (or_at : Bool) (target : Target) (low : Option Pair) → (other ≡ op → ⊥) → IsNode node → HasPassed w t other or_at target low → HasPassed (edited op page (lower_half right node) w) t other or_at target low
   HasPassed-cut other t or_at target low differ sound passed q v is lower = by_page (from_before q v (record { is = is.is; linked = is.linked }))
     where
-      clear_before : IsOf t node → IsLower node.low low → is_past node.high target ≡ true
-      clear_before of under = ⊎_elim (λ past. past) (λ (latched, clear). absurd (not_latched_held op page node w apart held other differ latched)) (passed page node (record { is = held.is; of = of; leaf = leaf; linked = held.linked }) under)
+      clear_before : IsOf t node → node.leaf ≡ true → IsLower node.low low → is_past node.high target ≡ true
+      clear_before of leaf under = ⊎_elim (λ past. past) (λ (latched, clear). absurd (not_latched_held op page node w apart held other differ latched)) (passed page node (record { is = held.is; of = of; leaf = leaf; linked = held.linked }) under)
 
       past_middle : (high : Option Pair) → Rises (Some (middle_pair node)) high → is_past high target ≡ true → is_past (Some (middle_pair node)) target ≡ true
       past_middle None up past = absurd (false≢true past)
@@ -287,28 +348,28 @@ module _ (op page right : ℕ) (node : NodeValue) (w : World) (apart : IsApart w
       by_page (inl (one, same)) =
           let of_node : IsOf t node = let halves = subst (IsOf t) same is.of in record { file = halves.file; index = halves.index } in
           let under : IsLower node.low low = subst (λ (u : NodeValue). IsLower u.low low) same lower in
-          inl (ap (λ (u : NodeValue). is_past u.high target) same ∙ ap (λ high. is_past high target) (high-lower right node enough) ∙ past_middle node.high (middle_below node sound enough) (clear_before of_node under))
+          inl (ap (λ (u : NodeValue). is_past u.high target) same ∙ ap (λ high. is_past high target) (high-lower right node enough) ∙ past_middle node.high (middle_below node sound enough) (clear_before of_node (sym (ap (λ (u : NodeValue). u.leaf) same) ∙ is.leaf) under))
       by_page (inr (inl (one, same))) =
           let of_node : IsOf t node = let halves = subst (IsOf t) same is.of in record { file = halves.file; index = halves.index } in
           let from_middle : IsLower (Some (middle_pair node)) low = subst (λ bound. IsLower bound low) (ap (λ (u : NodeValue). u.low) same ∙ low-upper node enough) lower in
-          inl (ap (λ (u : NodeValue). is_past u.high target) same ∙ clear_before of_node (under_low low node.low (middle_above node sound enough) from_middle))
+          inl (ap (λ (u : NodeValue). is_past u.high target) same ∙ clear_before of_node (sym (ap (λ (u : NodeValue). u.leaf) same) ∙ is.leaf) (under_low low node.low (middle_above node sound enough) from_middle))
       by_page (inr (inr before)) = passed q v (record { is = before.is; of = is.of; leaf = is.leaf; linked = before.linked }) lower
 
   HasPassedLeft-cut : (other : ℕ) (t : Tree) (or_at : Bool) (target : Target) (low : Pair) → (other ≡ op → ⊥) → IsNode node → HasPassedLeft w t other or_at target low → HasPassedLeft (edited op page (lower_half right node) w) t other or_at target low
   HasPassedLeft-cut other t or_at target low differ sound passed q v is above = by_page (from_before q v (record { is = is.is; linked = is.linked }))
     where
-      begins_before : IsOf t node → EndsAbove low node.high → IsAboveTarget target node.low
-      begins_before of ends = ⊎_elim (λ begins. begins) (λ (latched, clear). absurd (not_latched_held op page node w apart held other differ latched)) (passed page node (record { is = held.is; of = of; leaf = leaf; linked = held.linked }) ends)
+      begins_before : IsOf t node → node.leaf ≡ true → EndsAbove low node.high → IsAboveTarget target node.low
+      begins_before of leaf ends = ⊎_elim (λ begins. begins) (λ (latched, clear). absurd (not_latched_held op page node w apart held other differ latched)) (passed page node (record { is = held.is; of = of; leaf = leaf; linked = held.linked }) ends)
 
       by_page : ((q ≡ page) × (v ≡ lower_half right node)) ⊎ (((q ≡ right) × (v ≡ upper_half node)) ⊎ IsReached w q v) → IsClearLeft (edited op page (lower_half right node) w) other or_at target q v
       by_page (inl (one, same)) =
           let of_node : IsOf t node = let halves = subst (IsOf t) same is.of in record { file = halves.file; index = halves.index } in
           let ends : EndsAbove low (Some (middle_pair node)) = subst (EndsAbove low) (ap (λ (u : NodeValue). u.high) same ∙ high-lower right node enough) above in
-          inl (subst (IsAboveTarget target) (sym (ap (λ (u : NodeValue). u.low) same)) (begins_before of_node (EndsAbove-higher low (middle_pair node) node.high (middle_below node sound enough) ends)))
+          inl (subst (IsAboveTarget target) (sym (ap (λ (u : NodeValue). u.low) same)) (begins_before of_node (sym (ap (λ (u : NodeValue). u.leaf) same) ∙ is.leaf) (EndsAbove-higher low (middle_pair node) node.high (middle_below node sound enough) ends)))
       by_page (inr (inl (one, same))) =
           let of_node : IsOf t node = let halves = subst (IsOf t) same is.of in record { file = halves.file; index = halves.index } in
           let ends : EndsAbove low node.high = subst (EndsAbove low) (ap (λ (u : NodeValue). u.high) same) above in
-          inl (subst (IsAboveTarget target) (sym (ap (λ (u : NodeValue). u.low) same ∙ low-upper node enough)) (IsAboveTarget-higher target node.low (middle_pair node) (λ lower up past. is_past-lower target lower (middle_pair node) up past) (middle_above node sound enough) (begins_before of_node ends)))
+          inl (subst (IsAboveTarget target) (sym (ap (λ (u : NodeValue). u.low) same ∙ low-upper node enough)) (IsAboveTarget-higher target node.low (middle_pair node) (λ lower up past. is_past-lower target lower (middle_pair node) up past) (middle_above node sound enough) (begins_before of_node (sym (ap (λ (u : NodeValue). u.leaf) same) ∙ is.leaf) ends)))
       by_page (inr (inr before)) = passed q v (record { is = before.is; of = is.of; leaf = is.leaf; linked = before.linked }) above
 
   pub IsStep-cut : IsNode node → IsStep op w (edited op page (lower_half right node) w)
@@ -325,6 +386,7 @@ module _ (op page right : ℕ) (node : NodeValue) (w : World) (apart : IsApart w
       linked = stays_linked op page (lower_half right node) w q reached.linked;
     };
     blank = λ other q differ theirs. page_at-edited_other op page (lower_half right node) w q (λ one. not_theirs_held op page node w held other (subst (λ p. has_fresh other p w ≡ true) one theirs));
+    defined = λ other q def differ latched is. page_at-edited_other op page (lower_half right node) w q (λ one. let no : Holds node ≡ Defines def = sym held.is ∙ sym (ap (page_at w) one) ∙ is in absurd (cc)) ∙ is;
     passed = λ other t or_at target low differ. HasPassed-cut other t or_at target low differ sound;
     left = λ other t or_at target low differ. HasPassedLeft-cut other t or_at target low differ sound;
   }

@@ -1,29 +1,41 @@
 -- A pair put into a leaf or taken out of it, and the right page of a split written.
-use Rattle.std.proofs.Common.{◌≡◌, ℕ, zero, suc, ◌+◌, ◌<◌, ◌≤◌, Bool, true, false, not, ◌&&◌, cond, List, [], ◌∷◌, ◌++◌, length, map, refl, sym, ap, ◌∙◌, arith, filter, subst, inl, inr, ⊎_elim, Option, Some, None}
-use Rattle.std.specs.Prelude.{◌⊎◌, flat_map}
-use Rattle.std.specs.List.{All, AllPass}
-use Rattle.std.proofs.lemmas.Bool.{cases_Bool, cases_eq, false≢true, true≢false, and_parts, not-true, false_from_ne_true}
+use Rattle.std.proofs.Common.{◌≡◌, ℕ, Bool, true, false, not, cond, List, [], ◌∷◌, ◌++◌, refl, sym, ap, ◌∙◌, filter, subst, inl, inr, ⊎_elim, Option, Some, None}
+use Rattle.std.specs.List.{All}
+use Rattle.std.proofs.lemmas.Bool.{cases_eq, false≢true, true≢false, and_parts, not-true, false_from_ne_true}
 use Rattle.std.proofs.lemmas.List.Concat.{flat_map-append}
 use Rattle.std.proofs.lemmas.List.Elements.{All-weaker, All-head, All-tail, filter-append}
 use Rattle.ct_node.specs.declared.root.Root.{Root}
-use Rattle.ct_definitions.specs.Pairs.{Pair, pair_cmp, with_pair}
-use Rattle.ct_node.specs.Nodes.{Entry, NodeValue, IsNode, pair_in, pairs_in, is_from, is_below, is_within, with_entry, has_other_pair}
-use Rattle.ct_node.specs.Halves.{upper_half, lower_half}
-use Rattle.ct_node.specs.Worlds.{World, PageValue, Blank, Defines, Holds, DefinitionValue, page_at, has_latch, has_own, has_fresh, is_fresh, edited, IsHeld, PutsPair, TakesPair, WritesRight}
+use Rattle.ct_definitions.specs.Pairs.{Pair, with_pair}
+use Rattle.ct_node.specs.Nodes.{Entry, NodeValue, IsNode, pairs_in, is_from, is_below, with_entry, has_other_pair}
+use Rattle.ct_node.specs.Worlds.{World, Blank, Defines, Holds, page_at, has_latch, has_fresh, is_fresh, edited, IsHeld, PutsPair, TakesPair, WritesRight}
 use Rattle.ct_node.proofs.Orders.{below, same, same_back, not_above, not_same, map-with_entry, map-filter, other_than}
-use Rattle.ct_tree_laws.specs.Trees.{Tree, IsOf, IsAt, IsTree, IsApart, IsAmong, Linked, pairs_in_page, pairs_at, joined}
-use Rattle.ct_tree_laws.proofs.Taking.{has_latch_from_own}
+use Rattle.ct_tree_laws.specs.Trees.{Tree, IsOf, IsInner, IsInRole, IsTree, IsApart, IsAmong, pairs_in_page, pairs_at, joined}
 use Rattle.ct_tree_laws.proofs.Pages.{page_within, page_at-edited, page_at-edited_other, stays_linked, is_fresh-edited, has_fresh-edited, is_fresh_from, IsApart-edited}
-use Rattle.ct_tree_laws.proofs.Kept.{KeepsLinks, IsReached, IsAlike, IsAlike-same}
-use Rattle.ct_tree_laws.proofs.Steps.{IsStep, LeavesLinks, IsStep-from_links}
+use Rattle.ct_tree_laws.proofs.Kept.{KeepsDefinitions, KeepsLinks, IsReached, IsAlike, IsAlike-same, IsInRole-alike, named_kept}
+use Rattle.ct_tree_laws.proofs.Steps.{LeavesLinks}
 use Rattle.ct_tree_laws.proofs.Chains.{IsUnder, IsOver, below_le, Around, around, one_node}
 
+-- an edit of a page that has a node, or nothing, leaves definitions
+definitions_kept : (op page : ℕ) (node new : NodeValue) (w : World) → page_at w page ≡ Holds node → KeepsDefinitions w (edited op page new w)
+definitions_kept op page node new w is_node q def is = page_at-edited_other op page new w q (λ one. let no : Holds node ≡ Defines def = sym is_node ∙ sym (ap (page_at w) one) ∙ is in absurd (cc)) ∙ is
+
+definitions_kept_blank : (op page : ℕ) (new : NodeValue) (w : World) → page_at w page ≡ Blank → KeepsDefinitions w (edited op page new w)
+definitions_kept_blank op page new w blank q def is = page_at-edited_other op page new w q (λ one. let no : Blank ≡ Defines def = sym blank ∙ sym (ap (page_at w) one) ∙ is in absurd (cc)) ∙ is
+
 -- a node that a link reaches gives way to one that is alike
-KeepsLinks-alike : (op page : ℕ) (node new : NodeValue) (w : World) → IsReached w page node → IsAlike node new → is_fresh new.right w ≡ false → KeepsLinks w (edited op page new w)
-KeepsLinks-alike op page node new w reached alike onward = record {
+KeepsLinks-alike : (op page : ℕ) (node new : NodeValue) (w : World) → IsReached w page node → IsAlike node new → (node.leaf ≡ false → (t : Tree) → IsOf t node → IsInRole w t node → IsInner w t new) → is_fresh new.right w ≡ false → KeepsLinks w (edited op page new w)
+KeepsLinks-alike op page node new w reached alike leads onward = record {
   onward = λ q v is. ⊎_elim (changed q v is) (λ differ. (v, record { is = page_at-edited_other op page new w q differ ∙ is.is; linked = stays_linked op page new w q is.linked }, IsAlike-same v)) (cases_eq q page);
-  back = λ q v is. ⊎_elim (was q v is) (λ differ. (v, record { is = sym (page_at-edited_other op page new w q differ) ∙ is.is; linked = linked q is.linked }, IsAlike-same v)) (cases_eq q page);
-  definitions = λ q def is. page_at-edited_other op page new w q (λ one. let no : Holds node ≡ Defines def = sym reached.is ∙ sym (ap (page_at w) one) ∙ is in absurd (cc)) ∙ is;
+  back = λ q v is leaf. before q v is;
+  inner = λ q v is inner at t leaves tree of. ⊎_elim
+      (λ one.
+      let v_is : v ≡ new = new_here q v is one in
+      let of_node : IsOf t node = record { file = sym alike.file ∙ sym (ap (λ (u : NodeValue). u.file) v_is) ∙ of.file; index = sym alike.index ∙ sym (ap (λ (u : NodeValue). u.index) v_is) ∙ of.index } in
+      let role = tree.roles page node reached.is of_node reached.linked in
+      subst (IsInRole w t) (sym v_is) (IsInRole-alike w t node new alike (λ kind. leads kind t of_node role) role))
+      (λ differ. tree.roles q v (sym (page_at-edited_other op page new w q differ) ∙ is.is) of (linked q is.linked))
+      (cases_eq q page);
+  named = named_kept w (edited op page new w) (definitions_kept op page node new w reached.is);
 }
   where
     changed : (q : ℕ) (v : NodeValue) → IsReached w q v → q ≡ page → (other : NodeValue) × IsReached (edited op page new w) q other × IsAlike v other
@@ -34,14 +46,18 @@ KeepsLinks-alike op page node new w reached alike onward = record {
     linked : (q : ℕ) → is_fresh q (edited op page new w) ≡ false → is_fresh q w ≡ false
     linked q is = ⊎_elim (λ one. ap (λ p. is_fresh p w) one ∙ onward) (λ differ. sym (is_fresh-edited op page new w q differ) ∙ is) (cases_eq q new.right)
 
-    was : (q : ℕ) (v : NodeValue) → IsReached (edited op page new w) q v → q ≡ page → (other : NodeValue) × IsReached w q other × IsAlike other v
-    was q v is one =
-        let same_node : v ≡ new = one_node (edited op page new w) page new v (page_at-edited op page new w (page_within w page node reached.is)) (sym (ap (page_at (edited op page new w)) one) ∙ is.is) in
-        (node, record { is = ap (page_at w) one ∙ reached.is; linked = ap (λ p. is_fresh p w) one ∙ reached.linked }, subst (IsAlike node) (sym same_node) alike)
+    new_here : (q : ℕ) (v : NodeValue) → IsReached (edited op page new w) q v → q ≡ page → v ≡ new
+    new_here q v is one = one_node (edited op page new w) page new v (page_at-edited op page new w (page_within w page node reached.is)) (sym (ap (page_at (edited op page new w)) one) ∙ is.is)
+
+    before : (q : ℕ) (v : NodeValue) → IsReached (edited op page new w) q v → (other : NodeValue) × IsReached w q other × IsAlike other v
+    before q v is = ⊎_elim
+        (λ one. (node, record { is = ap (page_at w) one ∙ reached.is; linked = ap (λ p. is_fresh p w) one ∙ reached.linked }, subst (IsAlike node) (sym (new_here q v is one)) alike))
+        (λ differ. (v, record { is = sym (page_at-edited_other op page new w q differ) ∙ is.is; linked = linked q is.linked }, IsAlike-same v))
+        (cases_eq q page)
 
 -- an edit of a page that no other has
-LeavesLinks-edited : (op page : ℕ) (new : NodeValue) (w : World) → IsApart w → KeepsLinks w (edited op page new w) → ((other : ℕ) (node : NodeValue) → (other ≡ op → ⊥) → has_latch other page w ≡ true → IsReached w page node → ⊥) → ((other : ℕ) → (other ≡ op → ⊥) → has_fresh other page w ≡ true → ⊥) → LeavesLinks op w (edited op page new w)
-LeavesLinks-edited op page new w apart links not_latched not_theirs = record {
+LeavesLinks-edited : (op page : ℕ) (new : NodeValue) (w : World) → IsApart w → KeepsLinks w (edited op page new w) → KeepsDefinitions w (edited op page new w) → ((other : ℕ) (node : NodeValue) → (other ≡ op → ⊥) → has_latch other page w ≡ true → IsReached w page node → ⊥) → ((other : ℕ) → (other ≡ op → ⊥) → has_fresh other page w ≡ true → ⊥) → LeavesLinks op w (edited op page new w)
+LeavesLinks-edited op page new w apart links definitions not_latched not_theirs = record {
   founded = refl;
   apart = IsApart-edited op page new w apart;
   links = links;
@@ -53,6 +69,7 @@ LeavesLinks-edited op page new w apart links not_latched not_theirs = record {
     linked = stays_linked op page new w q reached.linked;
   };
   blank = λ other q differ mine. page_at-edited_other op page new w q (λ one. not_theirs other differ (subst (λ p. has_fresh other p w ≡ true) one mine));
+  defined = λ other q def differ latched is. definitions q def is;
 }
 
 pub not_latched_held : (op page : ℕ) (node : NodeValue) (w : World) → IsApart w → IsHeld op page node w → (other : ℕ) → (other ≡ op → ⊥) → has_latch other page w ≡ true → ⊥
@@ -61,12 +78,12 @@ not_latched_held op page node w apart held other differ latched = differ (apart.
 pub not_theirs_held : (op page : ℕ) (node : NodeValue) (w : World) → IsHeld op page node w → (other : ℕ) → has_fresh other page w ≡ true → ⊥
 not_theirs_held op page node w held other mine = false≢true (sym held.linked ∙ is_fresh_from other page w mine)
 
-LeavesLinks-held : (op page : ℕ) (node new : NodeValue) (w : World) → IsApart w → IsHeld op page node w → IsAlike node new → LeavesLinks op w (edited op page new w)
-LeavesLinks-held op page node new w apart held alike =
-    LeavesLinks-edited op page new w apart (KeepsLinks-alike op page node new w (record { is = held.is; linked = held.linked }) alike (ap (λ right. is_fresh right w) alike.right ∙ held.onward)) (λ other other_node differ latched reached. not_latched_held op page node w apart held other differ latched) (λ other differ mine. not_theirs_held op page node w held other mine)
+pub LeavesLinks-held : (op page : ℕ) (node new : NodeValue) (w : World) → IsApart w → IsHeld op page node w → IsAlike node new → (node.leaf ≡ false → (t : Tree) → IsOf t node → IsInRole w t node → IsInner w t new) → LeavesLinks op w (edited op page new w)
+LeavesLinks-held op page node new w apart held alike leads =
+    LeavesLinks-edited op page new w apart (KeepsLinks-alike op page node new w (record { is = held.is; linked = held.linked }) alike leads (ap (λ right. is_fresh right w) alike.right ∙ held.onward)) (definitions_kept op page node new w held.is) (λ other other_node differ latched reached. not_latched_held op page node w apart held other differ latched) (λ other differ mine. not_theirs_held op page node w held other mine)
 
-IsAlike-entries : (node new : NodeValue) (entries : List Entry) → node.leaf ≡ true → IsNode new → new ≡ record node { entries = entries } → IsAlike node new
-IsAlike-entries node new entries leaf sound made = record {
+pub IsAlike-entries : (node new : NodeValue) (entries : List Entry) → IsNode new → new ≡ record node { entries = entries } → IsAlike node new
+IsAlike-entries node new entries sound made = record {
   file = ap (λ (v : NodeValue). v.file) made;
   index = ap (λ (v : NodeValue). v.index) made;
   leaf = ap (λ (v : NodeValue). v.leaf) made;
@@ -74,44 +91,44 @@ IsAlike-entries node new entries leaf sound made = record {
   low = ap (λ (v : NodeValue). v.low) made;
   high = ap (λ (v : NodeValue). v.high) made;
   right = ap (λ (v : NodeValue). v.right) made;
-  inner = λ inner. absurd (true≢false (sym leaf ∙ inner));
   sound = λ _. sound;
 }
 
 pub LeavesLinks-puts : (op page : ℕ) (new : NodeValue) (w : World) → IsApart w → PutsPair op page new w → LeavesLinks op w (edited op page new w)
-LeavesLinks-puts op page new w apart puts = LeavesLinks-held op page puts.node new w apart puts.held (IsAlike-entries puts.node new (with_entry (record { pair = puts.pair; child = 0 }) puts.node.entries) puts.leaf puts.sound puts.made)
+LeavesLinks-puts op page new w apart puts = LeavesLinks-held op page puts.node new w apart puts.held (IsAlike-entries puts.node new (with_entry (record { pair = puts.pair; child = 0 }) puts.node.entries) puts.sound puts.made) (λ inner. absurd (true≢false (sym puts.leaf ∙ inner)))
 
 pub LeavesLinks-takes : (op page : ℕ) (new : NodeValue) (w : World) → IsApart w → TakesPair op page new w → LeavesLinks op w (edited op page new w)
-LeavesLinks-takes op page new w apart takes = LeavesLinks-held op page takes.node new w apart takes.held (IsAlike-entries takes.node new (filter (has_other_pair takes.pair) takes.node.entries) takes.leaf takes.sound takes.made)
+LeavesLinks-takes op page new w apart takes = LeavesLinks-held op page takes.node new w apart takes.held (IsAlike-entries takes.node new (filter (has_other_pair takes.pair) takes.node.entries) takes.sound takes.made) (λ inner. absurd (true≢false (sym takes.leaf ∙ inner)))
 
--- the right page of a split is written: no link reaches it
-KeepsLinks-right : (op page : ℕ) (new : NodeValue) (w : World) → IsApart w → WritesRight op page new w → KeepsLinks w (edited op page new w)
-KeepsLinks-right op page new w apart writes = record {
+-- a blank page of the operation's own is written: no link reaches it
+KeepsLinks-written : (op page : ℕ) (new : NodeValue) (w : World) → page_at w page ≡ Blank → has_fresh op page w ≡ true → is_fresh new.right w ≡ false → KeepsLinks w (edited op page new w)
+KeepsLinks-written op page new w blank mine onward = record {
   onward = λ q v is. (v, record { is = page_at-edited_other op page new w q (not_blank q v is.is) ∙ is.is; linked = stays_linked op page new w q is.linked }, IsAlike-same v);
-  back = λ q v is. let apart_page = not_fresh q is.linked in (v, record { is = sym (page_at-edited_other op page new w q apart_page) ∙ is.is; linked = linked q is.linked }, IsAlike-same v);
-  definitions = λ q def is. page_at-edited_other op page new w q (λ one. let no : Blank ≡ Defines def = sym writes.blank ∙ sym (ap (page_at w) one) ∙ is in absurd (cc)) ∙ is;
+  back = λ q v is leaf. (v, before q v is, IsAlike-same v);
+  inner = λ q v is inner at t leaves tree of. let was = before q v is in tree.roles q v was.is of was.linked;
+  named = named_kept w (edited op page new w) (definitions_kept_blank op page new w blank);
 }
   where
     not_blank : (q : ℕ) (v : NodeValue) → page_at w q ≡ Holds v → q ≡ page → ⊥
-    not_blank q v is one = let no : Blank ≡ Holds v = sym writes.blank ∙ sym (ap (page_at w) one) ∙ is in absurd (cc)
-
-    right : new.right ≡ writes.node.right
-    right = ap (λ (v : NodeValue). v.right) writes.made
-
-    onward : is_fresh new.right w ≡ false
-    onward = ap (λ p. is_fresh p w) right ∙ writes.held.onward
+    not_blank q v is one = let no : Blank ≡ Holds v = sym blank ∙ sym (ap (page_at w) one) ∙ is in absurd (cc)
 
     linked : (q : ℕ) → is_fresh q (edited op page new w) ≡ false → is_fresh q w ≡ false
     linked q is = ⊎_elim (λ one. ap (λ p. is_fresh p w) one ∙ onward) (λ differ. sym (is_fresh-edited op page new w q differ) ∙ is) (cases_eq q new.right)
 
     not_fresh : (q : ℕ) → is_fresh q (edited op page new w) ≡ false → q ≡ page → ⊥
-    not_fresh q is one = false≢true (sym (ap (λ p. is_fresh p w) (sym one) ∙ linked q is) ∙ is_fresh_from op page w writes.mine)
+    not_fresh q is one = false≢true (sym (ap (λ p. is_fresh p w) (sym one) ∙ linked q is) ∙ is_fresh_from op page w mine)
+
+    before : (q : ℕ) (v : NodeValue) → IsReached (edited op page new w) q v → IsReached w q v
+    before q v is = record { is = sym (page_at-edited_other op page new w q (not_fresh q is.linked)) ∙ is.is; linked = linked q is.linked }
+
+pub LeavesLinks-written : (op page : ℕ) (new : NodeValue) (w : World) → IsApart w → page_at w page ≡ Blank → has_fresh op page w ≡ true → is_fresh new.right w ≡ false → LeavesLinks op w (edited op page new w)
+LeavesLinks-written op page new w apart blank mine onward =
+    LeavesLinks-edited op page new w apart (KeepsLinks-written op page new w blank mine onward) (definitions_kept_blank op page new w blank)
+    (λ other node differ latched reached. let no : Blank ≡ Holds node = sym blank ∙ reached.is in absurd (cc))
+    (λ other differ also. differ (apart.owners page op other mine also))
 
 pub LeavesLinks-right : (op page : ℕ) (new : NodeValue) (w : World) → IsApart w → WritesRight op page new w → LeavesLinks op w (edited op page new w)
-LeavesLinks-right op page new w apart writes =
-    LeavesLinks-edited op page new w apart (KeepsLinks-right op page new w apart writes)
-    (λ other node differ latched reached. let no : Blank ≡ Holds node = sym writes.blank ∙ reached.is in absurd (cc))
-    (λ other differ mine. differ (apart.owners page op other writes.mine mine))
+LeavesLinks-right op page new w apart writes = LeavesLinks-written op page new w apart writes.blank writes.mine (ap (λ p. is_fresh p w) (ap (λ (v : NodeValue). v.right) writes.made) ∙ writes.held.onward)
 
 -- pages that stay have their pairs joined as before
 pub joined-same : (w now : World) (pages : List ℕ) → ((page : ℕ) → IsAmong page pages → page_at now page ≡ page_at w page) → joined now pages ≡ joined w pages

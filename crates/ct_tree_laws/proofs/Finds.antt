@@ -1,9 +1,9 @@
 -- What a search to the right finds is the first pair of the tree that is not before its target.
-use Rattle.std.proofs.Common.{◌≡◌, ℕ, zero, suc, ◌+◌, ◌<◌, ◌≤◌, Bool, true, false, not, ◌&&◌, ◌||◌, cond, List, [], ◌∷◌, ◌++◌, length, get_or, refl, sym, ap, ◌∙◌, arith, subst, inl, inr, ⊎_elim, Option, Some, None}
-use Rattle.std.specs.Prelude.{IsTrue, ◌⊎◌, find, slice_get}
+use Rattle.std.proofs.Common.{◌≡◌, ℕ, suc, ◌+◌, ◌≤◌, Bool, true, false, not, cond, List, [], ◌∷◌, ◌++◌, length, get_or, refl, sym, ap, ◌∙◌, arith, subst, inl, inr, ⊎_elim, Option, Some, None}
+use Rattle.std.specs.Prelude.{find, slice_get}
 use Rattle.std.specs.List.{All, AllPass, prefix_len}
 use Rattle.std.specs.Option.{option_or}
-use Rattle.std.proofs.lemmas.Bool.{cases_Bool, false≢true, true≢false, not-true, and_parts, or_left, cond-true, cond-false}
+use Rattle.std.proofs.lemmas.Bool.{false≢true, not-true, and_parts, or_left}
 use Rattle.std.proofs.lemmas.List.Folds.{find-append}
 use Rattle.std.proofs.lemmas.List.Elements.{All-nil, All-cons, All-head, All-tail, All-weaker, All-append}
 use Rattle.ct_definitions.specs.Pairs.{Pair}
@@ -11,14 +11,14 @@ use Rattle.ct_node.specs.declared.root.Root.{Root}
 use Rattle.ct_node.specs.declared.target.Target.{Target}
 use Rattle.ct_node.specs.declared.target.Target.TheVariants.{First, Last, At, Before}
 use Rattle.ct_node.specs.declared.target.Place.TheVariants as place
-use Rattle.ct_node.specs.Nodes.{NodeValue, IsNode, pairs_in, is_from, is_below, is_within}
+use Rattle.ct_node.specs.Nodes.{NodeValue, pairs_in, is_from, is_below, is_within}
 use Rattle.ct_node.specs.Places.{is_ahead, is_past, next_place}
-use Rattle.ct_node.specs.Worlds.{World, Holds, page_at, is_fresh}
+use Rattle.ct_node.specs.Worlds.{World, Holds, page_at}
 use Rattle.ct_node.proofs.Orders.{below, below-trans}
 use Rattle.ct_tree_laws.specs.declared.walk.Walk.{Walk}
 use Rattle.ct_tree_laws.specs.declared.walk.Stage.TheVariants as stage
-use Rattle.ct_tree_laws.specs.Trees.{Tree, IsOf, IsAt, IsTree, IsInRole, HasPassed, IsAmong, Chain, pairs_in_page, pairs_at, joined}
-use Rattle.ct_tree_laws.specs.Stands.{IsReachedBySearch, StandsIn}
+use Rattle.ct_tree_laws.specs.Trees.{Tree, IsOf, IsTree, HasPassed, IsAmong, Chain, pairs_in_page, pairs_at, joined}
+use Rattle.ct_tree_laws.specs.Stands.{StandsIn}
 use Rattle.ct_tree_laws.proofs.Chains.{LowLe, IsUnder, IsOver, one_node, link_to, below_le, Around, around}
 use Rattle.ct_tree_laws.proofs.Edits.{joined_around}
 use Rattle.ct_tree_laws.proofs.Keys.{leaf_at, one_tree}

@@ -1,10 +1,10 @@
 -- Who has a page, after a latch is taken or given back, a page allocated or an edit made.
-use Rattle.std.proofs.Common.{◌≡◌, ℕ, ◌+◌, ◌<◌, ◌≤◌, Bool, true, false, not, ◌&&◌, ◌||◌, cond, List, [], ◌∷◌, ◌++◌, length, refl, sym, ap, ◌∙◌, arith, filter, subst, inl, inr, ⊎_elim, Option, Some, None, eqb}
-use Rattle.std.specs.Prelude.{◌==◌, find, ◌⊎◌}
+use Rattle.std.proofs.Common.{◌≡◌, Bool, true, false, ◌||◌, cond, List, [], ◌∷◌, refl, sym, ap, ◌∙◌, filter, inl, inr, ⊎_elim, Some, None}
+use Rattle.std.specs.Prelude.{find, ◌⊎◌}
 use Rattle.std.specs.List.{list_any}
-use Rattle.std.proofs.lemmas.Bool.{cases_Bool, cases_eq, false≢true, and_parts, or_cases, eqb-true, eq-eqb, ne_eqb, and_from, or_left, or_right, or_parts, not-true}
+use Rattle.std.proofs.lemmas.Bool.{cases_Bool, false≢true, or_cases, or_left, or_right}
 use Rattle.ct_latch.specs.declared.hold.Hold.{Hold}
-use Rattle.ct_latch.specs.Latches.{is_of, bars, with_hold, with_share, comes_before}
+use Rattle.ct_latch.specs.Latches.{is_of, with_hold, comes_before}
 
 -- a test that implies another
 pub list_any_weaker : {X : Type 0} (p q : X → Bool) (xs : List X) → ((x : X) → p x ≡ true → q x ≡ true) → list_any p xs ≡ true → list_any q xs ≡ true

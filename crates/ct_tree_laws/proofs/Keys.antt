@@ -1,29 +1,29 @@
 -- What a step does to the pairs of each index.
-use Rattle.std.proofs.Common.{◌≡◌, ℕ, zero, suc, ◌+◌, ◌<◌, ◌≤◌, Bool, true, false, not, ◌&&◌, ◌||◌, cond, List, [], ◌∷◌, ◌++◌, length, refl, sym, ap, ◌∙◌, subst, inl, inr, ⊎_elim, Option, Some, None, filter, eqb}
-use Rattle.std.specs.Prelude.{IsTrue, if◌then◌else◌, ◌⊎◌, ◌==◌, slice_get}
+use Rattle.std.proofs.Common.{◌≡◌, ℕ, ◌≤◌, Bool, true, false, ◌||◌, cond, List, [], ◌∷◌, ◌++◌, length, refl, sym, ap, ◌∙◌, subst, inl, inr, ⊎_elim, Option, Some, None, eqb}
+use Rattle.std.specs.Prelude.{IsTrue, if◌then◌else◌, slice_get}
 use Rattle.std.specs.List.{All, list_any}
-use Rattle.std.proofs.lemmas.Bool.{cases_Bool, cases_eq, false≢true, and_parts, and_from, eqb-true, eq-eqb, or_right, or_left, or_from, false_from_ne_true, cond-true, cond-false}
+use Rattle.std.proofs.lemmas.Bool.{cases_Bool, false≢true, and_parts, and_from, eqb-true, eq-eqb, false_from_ne_true, cond-true, cond-false}
 use Rattle.std.proofs.lemmas.List.Folds.{list_any-append, list_any_none}
 use Rattle.std.proofs.lemmas.List.Elements.{All-weaker}
 use Rattle.ct_node.specs.declared.root.Root.{Root}
 use Rattle.ct_node.specs.declared.root.IndexRow.{IndexRow}
-use Rattle.ct_definitions.specs.Pairs.{Pair, pair_cmp, with_pair}
+use Rattle.ct_definitions.specs.Pairs.{Pair, with_pair}
 use Rattle.ct_node.specs.Nodes.{NodeValue, pairs_in, is_from, is_below, is_within, has_pair}
-use Rattle.ct_node.specs.Worlds.{World, PageValue, Blank, Defines, Holds, DefinitionValue, page_at, has_fresh, is_fresh, edited, with_fresh, IsHeld, PutsPair, TakesPair, WritesRight, CutsLeft}
+use Rattle.ct_node.specs.Worlds.{World, Blank, Defines, Holds, DefinitionValue, page_at, has_fresh, is_fresh, edited, with_fresh, IsHeld, PutsPair, TakesPair, WritesRight}
 use Rattle.ct_node.specs.Halves.{lower_half, upper_half}
-use Rattle.ct_node.proofs.Orders.{below, same, same_back, not_same, other_than}
+use Rattle.ct_node.proofs.Orders.{below, same, same_back, not_same}
 use Rattle.ct_tree_laws.specs.Trees.{Tree, IsOf, IsAt, IsTree, IsApart, IsAmong, Linked, Chain, pairs_in_page, pairs_at, joined}
-use Rattle.ct_tree_laws.specs.Stands.{KeepsKeys, ChangesKeys, is_same_root, added, without}
+use Rattle.ct_tree_laws.specs.Stands.{KeepsKeys, is_same_root, added, without}
 use Rattle.ct_tree_laws.proofs.Taking.{ChangesLatches}
 use Rattle.ct_tree_laws.proofs.Pages.{page_at-edited_other, page_at-with_fresh}
 use Rattle.ct_tree_laws.proofs.Kept.{KeepsLinks, IsTree-kept}
-use Rattle.ct_tree_laws.proofs.Steps.{LeavesLinks, LeavesLinks-latches, LeavesLinks-with_fresh}
-use Rattle.ct_tree_laws.proofs.Chains.{IsUnder, IsOver, link_to, Around, around, one_node}
+use Rattle.ct_tree_laws.proofs.Steps.{LeavesLinks-latches, LeavesLinks-with_fresh}
+use Rattle.ct_tree_laws.proofs.Chains.{IsUnder, IsOver, link_to, around, one_node}
 use Rattle.ct_tree_laws.proofs.Edits.{LeavesLinks-puts, LeavesLinks-takes, LeavesLinks-right, joined-same, joined_around, joined-puts, joined-takes, under_within, over_within}
 use Rattle.ct_tree_laws.proofs.Cuts.{inserted, IsTree-cut, joined-cut}
 
 -- where the pages of the leaves stay, so do their pairs
-Chain-same : (w now : World) (at : Root) (keys : List Pair) → KeepsLinks w now → (chain : Chain w at keys) → ((page : ℕ) → IsAmong page chain.leaves → page_at now page ≡ page_at w page) → Chain now at keys
+pub Chain-same : (w now : World) (at : Root) (keys : List Pair) → KeepsLinks w now → (chain : Chain w at keys) → ((page : ℕ) → IsAmong page chain.leaves → page_at now page ≡ page_at w page) → Chain now at keys
 Chain-same w now at keys links chain same = record {
   tree = chain.tree;
   leaves = chain.leaves;
@@ -57,14 +57,14 @@ KeepsKeys-right op page new w apart writes founded at keys chain =
     let no : Blank ≡ Holds leaf.node = sym move.blank ∙ sym (ap (page_at w) one) ∙ leaf.is in
     absurd (cc)))
 
-pub KeepsKeys-cut : (op page right : ℕ) (node : NodeValue) (w : World) → (IsTrue w.founded → IsApart w × IsHeld op page node w × (node.leaf ≡ true) × (2 ≤ length node.entries) × (has_fresh op right w ≡ true) × (page_at w right ≡ Holds (upper_half node))) → KeepsKeys w (edited op page (lower_half right node) w)
+pub KeepsKeys-cut : (op page right : ℕ) (node : NodeValue) (w : World) → (IsTrue w.founded → IsApart w × IsHeld op page node w × (2 ≤ length node.entries) × (has_fresh op right w ≡ true) × (page_at w right ≡ Holds (upper_half node))) → KeepsKeys w (edited op page (lower_half right node) w)
 KeepsKeys-cut op page right node w cuts founded at keys chain =
     let move = cuts founded in
     record {
       tree = chain.tree;
       leaves = inserted page right chain.leaves;
-      is = IsTree-cut op page right node w move.0 move.1 move.2 move.3 move.4 move.5 at chain.tree chain.leaves chain.is;
-      keys_are = joined-cut op page right node w move.0 move.1 move.2 move.3 move.4 move.5 chain.leaves (λ q among. (leaf_at w at chain.tree chain.leaves chain.is q among).1.linked) ∙ chain.keys_are;
+      is = IsTree-cut op page right node w move.0 move.1 move.2 move.3 move.4 at chain.tree chain.leaves chain.is;
+      keys_are = joined-cut op page right node w move.0 move.1 move.2 move.3 move.4 chain.leaves (λ q among. (leaf_at w at chain.tree chain.leaves chain.is q among).1.linked) ∙ chain.keys_are;
     }
 
 -- a tree is told by its definition

@@ -15,7 +15,7 @@ use Rattle.ct_tree_laws.proofs.Chains.{one_node}
 -- where links stay, what a search has passed stays passed
 pub HasPassedLeft-kept : (w now : World) (other : ℕ) → KeepsLinks w now → ((page : ℕ) → has_latch other page now ≡ has_latch other page w) → ((page : ℕ) (node : NodeValue) → has_latch other page w ≡ true → IsReached w page node → IsReached now page node) → (t : Tree) (or_at : Bool) (target : Target) (low : Pair) → HasPassedLeft w t other or_at target low → HasPassedLeft now t other or_at target low
 HasPassedLeft-kept w now other keeps latch held t or_at target low passed page node leaf above =
-    let before = keeps.back page node (record { is = leaf.is; linked = leaf.linked }) in
+    let before = keeps.back page node (record { is = leaf.is; linked = leaf.linked }) leaf.leaf in
     let alike = before.2 in
     let was : IsLeaf w t page before.0 = record { is = before.1.is; of = record { file = sym alike.file ∙ leaf.of.file; index = sym alike.index ∙ leaf.of.index }; leaf = sym alike.leaf ∙ leaf.leaf; linked = before.1.linked } in
     ⊎_elim

@@ -20,3 +20,9 @@ pub mod LeftTurns
 pub mod LeftFinds
 pub mod NewTree
 pub mod HalfSplits
+pub mod PostingEdits
+pub mod PostingRoots
+pub mod PostingZeros
+pub mod PostingTurns
+pub mod PostingSplits
+pub mod PostingCrowns

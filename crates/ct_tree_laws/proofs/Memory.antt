@@ -1,16 +1,18 @@
 -- What an operation remembers stands after a call of another one.
-use Rattle.std.proofs.Common.{◌≡◌, ℕ, zero, suc, ◌+◌, ◌<◌, ◌≤◌, Bool, true, false, List, length, refl, sym, ap, ◌∙◌, subst, inl, inr, ⊎_elim, Option, Some, None}
+use Rattle.std.proofs.Common.{◌≡◌, ℕ, Bool, true, false, sym, ◌∙◌, subst, Option, Some, None}
 use Rattle.std.specs.Prelude.{IsTrue}
 use Rattle.ct_node.specs.declared.target.Target.{Target}
 use Rattle.ct_node.specs.Nodes.{NodeValue}
-use Rattle.ct_node.specs.Worlds.{World, Holds, Blank, page_at, has_own, has_fresh, IsTidy}
-use Rattle.ct_tree_laws.specs.declared.walk.Walk.{Walk}
+use Rattle.ct_node.specs.Worlds.{World, DefinitionValue, has_fresh, IsTidy}
 use Rattle.ct_tree_laws.specs.declared.walk.Stage.{Stage}
-use Rattle.ct_tree_laws.specs.declared.walk.Stage.TheVariants.{Start, Down, Leaf, Held, Full, Split, Cut, Share, Shared, Ended, SharedLeft, Left}
+use Rattle.ct_tree_laws.specs.declared.walk.Stage.TheVariants.{Start, Down, Leaf, Held, Full, Split, Cut, Share, Shared, Ended, SharedLeft, Left, Post}
 use Rattle.ct_tree_laws.specs.Trees.{Tree, IsAt, IsNear}
-use Rattle.ct_tree_laws.specs.Stands.{HasNone, HasOnly, IsNearLeaf, IsFull, IsTidyBut, IsReachedBySearch, IsAtStage, StandsIn, Stands, Keeps, IsOnWay}
+use Rattle.ct_tree_laws.specs.Stands.{HasNone, HasOnly, IsNearLeaf, IsFull, IsTidyBut, IsReachedBySearch, IsAtStage, StandsIn, Stands, Keeps, IsOnWay, IsSeparator, IsAbove, IsAboveIf, IsChosen, IsHalf, HasBoth, HasDefinition, HasRoot, IsCrown, IsAtRise}
+use Rattle.ct_tree_laws.specs.declared.rise.Separator.{Separator}
+use Rattle.ct_tree_laws.specs.declared.rise.Rise.{Rise}
+use Rattle.ct_tree_laws.specs.declared.rise.Rise.TheVariants as rise
 use Rattle.ct_tree_laws.proofs.Taking.{has_latch_from_own}
-use Rattle.ct_tree_laws.proofs.Kept.{IsReached}
+use Rattle.ct_tree_laws.proofs.Kept.{IsInRole-kept}
 use Rattle.ct_tree_laws.proofs.Steps.{IsStep}
 use Rattle.ct_node.specs.declared.target.Target.TheVariants.{Before}
 use Rattle.ct_tree_laws.specs.declared.left.Way.{Way}
@@ -49,6 +51,58 @@ module _ (op : ℕ) (w now : World) (step : IsStep op w now) (other : ℕ) (diff
   only : (page : ℕ) → HasOnly other page w → HasOnly other page now
   only page is q latched = is q (sym (step.latch other q differ) ∙ latched)
 
+  separator_kept : (separator : Separator) → IsSeparator w t separator → IsSeparator now t separator
+  separator_kept separator is = (is.0, step.at t is.0 (Some separator.low) separator.child is.1, is.2, is.3)
+
+  above_kept : (separator : Separator) (page : ℕ) → IsAbove w t separator page → IsAbove now t separator page
+  above_kept separator page is = (is.0, step.at t false is.0 page is.1, is.2)
+
+  above_if : (separator : Separator) (above : Option ℕ) → IsAboveIf w t separator above → IsAboveIf now t separator above
+  above_if separator None is = is
+  above_if separator (Some page) is = above_kept separator page is
+
+  chosen : (separator : Separator) (page : ℕ) (node : NodeValue) → IsChosen w t other separator page node → IsChosen now t other separator page node
+  chosen separator page node is =
+      let kept = step.held other page node differ (has_latch_from_own other page w is.owned) (record { is = is.is; linked = is.linked }) in
+      record { is = kept.is; owned = step.own other page differ ∙ is.owned; linked = kept.linked; of = is.of; inner = is.inner; within = is.within }
+
+  half : (separator : Separator) (page : ℕ) (next : Option Separator) → IsHalf w t other separator page next → IsHalf now t other separator page next
+  half separator page None is = is
+  half separator page (Some next) is = (separator_kept next is.0, (is.1.0, chosen separator page is.1.0 is.1.1, is.1.2))
+
+  both : (page right : ℕ) → HasBoth other page right w → HasBoth other page right now
+  both page right is q latched = is q (sym (step.latch other q differ) ∙ latched)
+
+  definition : (def : DefinitionValue) → HasDefinition w t other def → HasDefinition now t other def
+  definition def has = record {
+    page = has.page;
+    is = step.defined other has.page def differ (has_latch_from_own other has.page w has.owned) has.is;
+    file = has.file;
+    owned = step.own other has.page differ ∙ has.owned;
+    only = only has.page has.only;
+  }
+
+  root : (separator : Separator) → HasRoot w t other separator → HasRoot now t other separator
+  root separator has = record { def = has.def; row = has.row; has = definition has.def has.has; named = has.named; old = has.old }
+
+  crown : (separator : Separator) (node : NodeValue) → IsCrown w t separator node → IsCrown now t separator node
+  crown separator node is = record { first = is.first; rest = is.rest; of = is.of; inner = is.inner; low = is.low; high = is.high; entries = is.entries; old = is.old; role = IsInRole-kept w now t node step.at is.role }
+
+  rise_kept : (separator : Separator) (rise : Rise) → IsAtRise w t other separator rise → IsAtRise now t other separator rise
+  rise_kept separator rise.Root is = (tidy is.0, none is.1)
+  rise_kept separator (rise.Down page above) is = (tidy is.0, (is.1.0, is.1.1, step.at t is.1.0 is.1.1 page is.1.2, is.1.3), above_if separator above is.2, none is.3)
+  rise_kept separator (rise.Above page) is = (tidy is.0, above_kept separator page is.1, none is.2)
+  rise_kept separator (rise.Held page next) is = (tidy is.0, above_kept separator page is.1, step.own other page differ ∙ is.2, only page is.3, half separator page next is.4)
+  rise_kept separator (rise.Full page) is = (tidy is.0, (is.1.0, (chosen separator page is.1.0 is.1.1.0, is.1.1.1)), only page is.2)
+  rise_kept separator (rise.Fresh page right) is = (tidy is.0, (is.1.0, (chosen separator page is.1.0 is.1.1.0, is.1.1.1)), step.fresh other right differ ∙ is.2, only page is.3)
+  rise_kept separator (rise.Split page right) is = (tidy is.0, (is.1.0, (chosen separator page is.1.0 is.1.1.0, is.1.1.1)), step.fresh other right differ ∙ is.2, step.own other right differ ∙ is.3, both page right is.4)
+  rise_kept separator (rise.Cut page right) is = (tidy_but right is.0, (is.1.0, (chosen separator page is.1.0 is.1.1.0, is.1.1.1), step.blank other right differ is.2 ∙ is.1.2), step.fresh other right differ ∙ is.2, step.own other right differ ∙ is.3, both page right is.4)
+  rise_kept separator rise.Again is = (tidy is.0, none is.1)
+  rise_kept separator rise.Named is = (tidy is.0, (is.1.0, definition is.1.0 is.1.1))
+  rise_kept separator rise.Grow is = (tidy is.0, root separator is.1)
+  rise_kept separator (rise.Crown page) is = (tidy is.0, root separator is.1, step.fresh other page differ ∙ is.2)
+  rise_kept separator (rise.Crowned page) is = (tidy_but page is.0, root separator is.1, step.fresh other page differ ∙ is.2, (is.3.0, step.blank other page differ is.2 ∙ is.3.1, crown separator is.3.0 is.3.2))
+
   stage_kept : (stage : Stage) → IsAtStage w t other target stage → IsAtStage now t other target stage
   stage_kept Start is = (tidy is.0, none is.1)
   stage_kept (Down page) is = (tidy is.0, near page is.1, none is.2)
@@ -61,6 +115,7 @@ module _ (op : ℕ) (w now : World) (step : IsStep op w now) (other : ℕ) (diff
   stage_kept (Shared page above) is = (tidy is.0, reached page above is.1, step.latch other page differ ∙ is.2)
   stage_kept (SharedLeft page) is = (tidy is.0, near_leaf page is.1, step.latch other page differ ∙ is.2)
   stage_kept (Left low or_at on) is = (tidy is.0, step.left other t or_at target low differ is.1, on_way (Before low) on is.2)
+  stage_kept (Post separator rise) is = (separator_kept separator is.0, rise_kept separator rise is.1)
   stage_kept Ended is = none is
 
 -- a step of an operation keeps what all others remember

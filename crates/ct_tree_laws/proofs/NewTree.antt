@@ -1,19 +1,16 @@
 -- A new index in memory is a tree with one leaf and no pair, and any operation may begin on it.
-use Rattle.std.proofs.Common.{◌≡◌, ℕ, zero, suc, ◌+◌, ◌<◌, ◌≤◌, Bool, true, false, List, [], ◌∷◌, length, get_or, refl, sym, ap, ◌∙◌, arith, subst, inl, inr, Option, Some, None}
-use Rattle.std.specs.Prelude.{IsTrue}
+use Rattle.std.proofs.Common.{◌≡◌, ℕ, zero, suc, ◌≤◌, true, [], ◌∷◌, length, refl, sym, ◌∙◌, arith, subst, inl, Some, None}
 use Rattle.std.proofs.lemmas.Bool.{false≢true}
 use Rattle.std.proofs.lemmas.List.Elements.{All-nil}
 use Rattle.ct_definitions.specs.Pairs.{Pair}
-use Rattle.ct_node.specs.declared.root.Root.{Root}
 use Rattle.ct_node.specs.declared.target.Target.TheVariants.{At}
 use Rattle.ct_node.specs.Nodes.{NodeValue, IsNode, is_within}
-use Rattle.ct_node.specs.Worlds.{World, PageValue, Blank, Defines, Holds, DefinitionValue, page_at, has_fresh, is_fresh, IsTidy}
+use Rattle.ct_node.specs.Worlds.{Blank, Defines, Holds, DefinitionValue, page_at}
 use Rattle.ct_node.specs.MemWorlds.{empty_leaf, new_world}
 use Rattle.ct_tree_laws.specs.declared.walk.Walk.{Walk}
-use Rattle.ct_tree_laws.specs.declared.walk.Stage.{Stage}
 use Rattle.ct_tree_laws.specs.declared.walk.Stage.TheVariants as stage
-use Rattle.ct_tree_laws.specs.Trees.{Tree, IsOf, IsAt, IsInRole, IsTree, IsApart, IsAmong, Linked, Link, link_of, Chain}
-use Rattle.ct_tree_laws.specs.Stands.{StandsIn, Stands}
+use Rattle.ct_tree_laws.specs.Trees.{Tree, IsOf, IsAt, IsInRole, IsTree, IsApart, Chain}
+use Rattle.ct_tree_laws.specs.Stands.{Stands}
 
 module _ (key_len : ℕ) (some : 1 ≤ key_len) (short : key_len ≤ 128) where
   page_one : (page : ℕ) (node : NodeValue) → page_at (new_world key_len) page ≡ Holds node → (page ≡ 1) × (node ≡ empty_leaf key_len)
@@ -68,6 +65,7 @@ module _ (key_len : ℕ) (some : 1 ≤ key_len) (short : key_len ≤ 128) where
     within = λ page fresh. absurd (false≢true fresh);
     some = omega arith;
     zero = refl;
+    settled = λ page def is. refl;
     files = λ page other def also is told same. page_zero other also told ∙ sym (page_zero page def is);
   }
 

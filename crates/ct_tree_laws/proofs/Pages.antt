@@ -1,18 +1,22 @@
 -- What stands in a page, and who has it, after a page is allocated or an edit made.
-use Rattle.std.proofs.Common.{◌≡◌, ℕ, zero, suc, ◌+◌, ◌-◌, ◌<◌, ◌≤◌, Bool, true, false, not, ◌&&◌, ◌||◌, cond, List, [], ◌∷◌, ◌++◌, length, get_or, set, refl, sym, ap, ◌∙◌, arith, filter, subst, inl, inr, ⊎_elim, Option, Some, None, eqb}
+use Rattle.std.proofs.Common.{◌≡◌, ℕ, zero, suc, ◌-◌, ◌<◌, true, false, not, ◌||◌, List, [], ◌∷◌, length, get_or, set, refl, sym, ap, ◌∙◌, arith, filter, subst, inl, inr, ⊎_elim, eqb}
 use Rattle.std.specs.Prelude.{◌==◌, ◌⊎◌}
 use Rattle.std.specs.List.{list_any}
-use Rattle.std.proofs.lemmas.Bool.{cases_Bool, cases_eq, cases_lt, false≢true, and_parts, eqb-true, eq-eqb, ne_eqb, and_from, and_left, and_right, or_left, or_right, or_cases, false_from_ne_true}
+use Rattle.std.proofs.lemmas.Bool.{cases_eq, cases_lt, false≢true, and_parts, eqb-true, eq-eqb, ne_eqb, and_from, and_left, and_right, or_left, or_right, or_cases, false_from_ne_true}
 use Rattle.std.proofs.lemmas.List.{get_or-set_same, get_or-set_other, get_or_past, get_or_append_left, get_or-append_right, length-set, length_push, set_past}
 use Rattle.ct_node.specs.declared.root.Owner.{Owner}
 use Rattle.ct_node.specs.Nodes.{NodeValue}
-use Rattle.ct_node.specs.Worlds.{World, PageValue, Blank, Defines, Holds, DefinitionValue, page_at, has_latch, has_own, has_fresh, is_fresh, is_owner, with_fresh, edited}
+use Rattle.ct_node.specs.Worlds.{World, PageValue, Blank, Defines, Holds, DefinitionValue, page_at, has_fresh, is_fresh, is_owner, with_fresh, edited}
 use Rattle.ct_tree_laws.specs.Trees.{IsApart}
 use Rattle.ct_tree_laws.proofs.Holders.{list_any_weaker, list_any-filter, list_any_filtered, list_any_gone}
 
 -- a page that holds a node was allocated
 pub page_within : (w : World) (page : ℕ) (node : NodeValue) → page_at w page ≡ Holds node → page < length w.pages
 page_within w page node is = ⊎_elim (λ within. within) (λ past. absurd (let no : Blank ≡ Holds node = sym (get_or_past w.pages page Blank past) ∙ is in cc)) (cases_lt page (length w.pages))
+
+-- and one that holds a definition
+pub definition_within : (w : World) (page : ℕ) (def : DefinitionValue) → page_at w page ≡ Defines def → page < length w.pages
+definition_within w page def is = ⊎_elim (λ within. within) (λ past. absurd (let no : Blank ≡ Defines def = sym (get_or_past w.pages page Blank past) ∙ is in cc)) (cases_lt page (length w.pages))
 
 pub page_at-edited : (op page : ℕ) (node : NodeValue) (w : World) → page < length w.pages → page_at (edited op page node w) page ≡ Holds node
 page_at-edited op page node w within = get_or-set_same w.pages page (Holds node) Blank within
@@ -109,6 +113,7 @@ IsApart-edited op page node w apart = record {
   within = λ q fresh. let old : q < length w.pages = apart.within q (is_fresh_before op page node w q fresh) in let long : length (set w.pages page (Holds node)) ≡ length w.pages = length-set w.pages page (Holds node) in omega arith;
   some = let long : length (set w.pages page (Holds node)) ≡ length w.pages = length-set w.pages page (Holds node) in let some = apart.some in omega arith;
   zero = stays_linked op page node w 0 apart.zero;
+  settled = λ q def is. stays_linked op page node w q (apart.settled q def (defines_before op page node w q def is));
   files = λ q other def also is told. apart.files q other def also (defines_before op page node w q def is) (defines_before op page node w other also told);
 }
 
@@ -127,6 +132,7 @@ IsApart-with_fresh op w apart = record {
   within = λ q fresh. let long = length_push w.pages Blank in ⊎_elim (λ here. let same = eqb-true (length w.pages) q here in omega arith) (λ old. let within = apart.within q old in omega arith) (or_cases (eqb (length w.pages) q) (is_fresh q w) fresh);
   some = let long = length_push w.pages Blank in omega arith;
   zero = is_fresh-with_fresh op w 0 apart.some ∙ apart.zero;
+  settled = λ q def is. let was : page_at w q ≡ Defines def = sym (page_at-with_fresh op w q) ∙ is in is_fresh-with_fresh op w q (definition_within w q def was) ∙ apart.settled q def was;
   files = λ q other def also is told. apart.files q other def also (sym (page_at-with_fresh op w q) ∙ is) (sym (page_at-with_fresh op w other) ∙ told);
 }
   where

@@ -1,35 +1,30 @@
 -- The turns of a put: each ends at a stage that stands, keeps what others remember, and changes the pairs by its own one at most.
-use Rattle.std.proofs.Common.{◌≡◌, ℕ, ◌+◌, ◌<◌, ◌≤◌, Bool, true, false, not, cond, List, [], ◌∷◌, length, refl, sym, ap, ◌∙◌, arith, subst, inl, inr, ⊎_elim, Option, Some, None, filter}
-use Rattle.std.specs.Prelude.{IsTrue, ◌⊎◌, find, ◌==◌, if◌then◌else◌}
+use Rattle.std.proofs.Common.{◌≡◌, ℕ, ◌≤◌, true, false, not, cond, List, [], ◌∷◌, length, refl, sym, ap, ◌∙◌, subst, ⊎_elim, None, filter}
+use Rattle.std.specs.Prelude.{IsTrue, find}
 use Rattle.std.proofs.lemmas.Bool.{cases_Bool, false≢true, true≢false, cond-true, cond-false, or_parts, false_from_ne_true}
-use Rattle.std.proofs.lemmas.List.{get_or_past}
-use Rattle.ct_latch.specs.Latches.{is_of, bars, with_hold, with_share}
+use Rattle.ct_latch.specs.Latches.{is_of, bars, with_hold}
 use Rattle.std.specs.Ordering.{is_eq}
 use Rattle.ct_definitions.specs.Pairs.{Pair, pair_cmp, with_pair}
 use Rattle.ct_node.specs.declared.root.Root.{Root}
-use Rattle.ct_node.specs.declared.target.Target.{Target}
 use Rattle.ct_node.specs.declared.target.Target.TheVariants.{At}
 use Rattle.ct_node.specs.declared.target.Place.TheVariants as place
 use Rattle.ct_node.specs.Nodes.{NodeValue, IsNode, pairs_in, has_pair, is_within, with_entry, has_other_pair}
 use Rattle.ct_node.specs.Places.{is_past, next_place}
-use Rattle.ct_node.specs.Halves.{upper_half, lower_half}
-use Rattle.ct_node.specs.Worlds.{World, PageValue, Blank, Holds, page_at, has_latch, has_own, has_fresh, is_fresh, with_fresh, with_holds, edited, no_mark, IsHeld, PutsPair, TakesPair, WritesRight, CutsLeft, Move, IsTidy}
+use Rattle.ct_node.specs.Worlds.{World, Holds, page_at, has_latch, has_fresh, with_holds, edited, IsHeld, PutsPair, TakesPair, IsTidy}
 use Rattle.ct_tree_laws.specs.declared.walk.Walk.{Walk}
 use Rattle.ct_tree_laws.specs.declared.walk.Stage.{Stage}
 use Rattle.ct_tree_laws.specs.declared.walk.Stage.TheVariants as stage
-use Rattle.ct_tree_laws.specs.Trees.{Tree, IsOf, IsAt, IsTree, IsApart, IsInRole, IsLowFor, Chain, joined}
-use Rattle.ct_tree_laws.specs.Stands.{HasNone, HasOnly, IsNearLeaf, IsFull, IsTidyBut, IsAtStage, StandsIn, Stands, Keeps, Stepped, KeepsKeys, ChangesKeys, is_same_root, added, without}
-use Rattle.ct_tree_laws.proofs.Taking.{owned, is_of_parts, ChangesLatches, ChangesLatches-own, ChangesLatches-free, has_own-with_hold_new}
-use Rattle.ct_tree_laws.proofs.Pages.{page_within, page_at-edited, page_at-edited_other, page_at-with_fresh, stays_linked, is_fresh_from, has_fresh_before, has_fresh-edited_mine, is_linked-edited, is_fresh-with_fresh, has_fresh-with_fresh, has_fresh_new}
+use Rattle.ct_tree_laws.specs.Trees.{IsTree, IsApart, IsLowFor, Chain, joined}
+use Rattle.ct_tree_laws.specs.Stands.{HasNone, HasOnly, IsAtStage, StandsIn, Stands, Stepped, KeepsKeys, ChangesKeys, is_same_root, added, without}
+use Rattle.ct_tree_laws.proofs.Taking.{owned, is_of_parts, ChangesLatches-own, ChangesLatches-free, has_own-with_hold_new}
+use Rattle.ct_tree_laws.proofs.Pages.{page_at-edited_other, has_fresh_before}
 use Rattle.ct_tree_laws.proofs.Holders.{list_any_gone, list_any_filtered, list_any-with_hold_old}
-use Rattle.ct_tree_laws.proofs.Chains.{one_node}
-use Rattle.ct_tree_laws.proofs.Steps.{IsStep, IsStep-none, IsStep-next, IsStep-latches, IsStep-with_fresh, IsStep-from_links}
-use Rattle.ct_tree_laws.proofs.Edits.{LeavesLinks-puts, LeavesLinks-takes, LeavesLinks-right, not_theirs_held}
-use Rattle.ct_tree_laws.proofs.Cuts.{IsStep-cut}
+use Rattle.ct_tree_laws.proofs.Steps.{IsStep, IsStep-next, IsStep-latches, IsStep-from_links}
+use Rattle.ct_tree_laws.proofs.Edits.{LeavesLinks-puts, LeavesLinks-takes, not_theirs_held}
 use Rattle.ct_tree_laws.proofs.Memory.{Keeps-step}
-use Rattle.ct_tree_laws.proofs.Keys.{KeepsKeys-latches, KeepsKeys-with_fresh, KeepsKeys-right, KeepsKeys-cut, ChangesKeys-puts, ChangesKeys-takes, has_pair-joined, one_tree, same_root}
-use Rattle.ct_tree_laws.proofs.Walking.{IsSeen, IsLast, seen_near, seen_leaf, near_right, near_down, last_here, within_last, onward_of}
-use Rattle.ct_tree_laws.proofs.Turns.{at_stage, stepped_same, not_founded}
+use Rattle.ct_tree_laws.proofs.Keys.{KeepsKeys-latches, ChangesKeys-puts, ChangesKeys-takes, has_pair-joined, one_tree, same_root}
+use Rattle.ct_tree_laws.proofs.Walking.{IsSeen, seen_leaf, near_right, near_down, within_last, onward_of}
+use Rattle.ct_tree_laws.proofs.Turns.{at_stage, not_founded}
 
 -- the same operation after a step
 pub stands_after : (walk : Walk) (from to : Stage) (w now : World) (stands : StandsIn walk from w) → IsStep walk.op w now → IsAtStage now stands.tree walk.op walk.target to → StandsIn walk to now
@@ -60,7 +55,7 @@ freed_none page op w only q = false_from_ne_true (has_latch op q (freed page op 
     let one : q ≡ page = only q (list_any_filtered (is_of q op) (λ hold. not (is_of page op hold)) w.holds latched) in
     false≢true (sym (list_any_gone (is_of page op) (λ hold. not (is_of page op hold)) w.holds (λ hold of. ap not of)) ∙ subst (λ p. has_latch op p (freed page op w) ≡ true) one latched))
 
-only_owned : (page op : ℕ) (w : World) → HasNone op w → HasOnly op page (with_holds (with_hold (owned page op) w.holds) w)
+pub only_owned : (page op : ℕ) (w : World) → HasNone op w → HasOnly op page (with_holds (with_hold (owned page op) w.holds) w)
 only_owned page op w none q latched = ⊎_elim (λ new. sym (is_of_parts q op (owned page op) new).0) (λ old. absurd (false≢true (sym (none q) ∙ old))) (list_any-with_hold_old (is_of q op) (owned page op) w.holds latched)
 
 -- the leaf becomes the operation's own
@@ -152,7 +147,7 @@ puts_pair walk page node new pair w is leaf key within absent sound made here = 
 pub takes_pair : (walk : Walk) (page : ℕ) (node new : NodeValue) (pair : Pair) (w : World) → page_at w page ≡ Holds node → node.leaf ≡ true → is_within node.low node.high pair ≡ true → IsNode new → new ≡ record node { entries = filter (has_other_pair pair) node.entries } → StandsIn walk (stage.Held page) w → TakesPair walk.op page new w
 takes_pair walk page node new pair w is leaf within sound made here = record { node = node; pair = pair; held = held_of walk page node w is here; leaf = leaf; within = within; sound = sound; made = made }
 
-tidy_edited : (op page : ℕ) (node new : NodeValue) (w : World) → IsHeld op page node w → IsTidy op w → IsTidy op (edited op page new w)
+pub tidy_edited : (op page : ℕ) (node new : NodeValue) (w : World) → IsHeld op page node w → IsTidy op w → IsTidy op (edited op page new w)
 tidy_edited op page node new w held tidy q mine =
     let was : has_fresh op q w ≡ true = has_fresh_before op page new w op q mine in
     page_at-edited_other op page new w q (λ one. not_theirs_held op page node w held op (subst (λ p. has_fresh op p w ≡ true) one was)) ∙ tidy q was

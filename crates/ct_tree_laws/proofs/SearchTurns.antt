@@ -1,33 +1,29 @@
 -- The turns of a search to the right: all leaves up to its place hold nothing for it, and so the pair that it finds is the first one.
-use Rattle.std.proofs.Common.{◌≡◌, ℕ, zero, suc, ◌+◌, ◌<◌, ◌≤◌, Bool, true, false, not, ◌&&◌, ◌||◌, cond, List, [], ◌∷◌, ◌++◌, length, refl, sym, ap, ◌∙◌, arith, subst, inl, inr, ⊎_elim, Option, Some, None, filter}
-use Rattle.std.specs.Prelude.{IsTrue, ◌⊎◌, find, ◌==◌, slice_get, if◌then◌else◌}
-use Rattle.std.specs.List.{All, AllPass, prefix_len}
-use Rattle.std.specs.Option.{option_or}
-use Rattle.std.proofs.lemmas.Bool.{cases_Bool, cases_eq, false≢true, true≢false, not-true, and_parts, or_cases, or_left, or_right, cond-true, cond-false, false_from_ne_true, eq-eqb}
-use Rattle.std.proofs.lemmas.List.Folds.{find-append}
-use Rattle.std.proofs.lemmas.List.Elements.{All-nil, All-head, All-tail, All-weaker, All-append}
+use Rattle.std.proofs.Common.{◌≡◌, ℕ, Bool, true, false, not, ◌&&◌, ◌||◌, List, [], ◌∷◌, refl, sym, ap, ◌∙◌, subst, inl, inr, ⊎_elim, Option, Some, None, filter}
+use Rattle.std.specs.Prelude.{IsTrue, ◌⊎◌, find, ◌==◌}
+use Rattle.std.specs.List.{AllPass, prefix_len}
+use Rattle.std.proofs.lemmas.Bool.{cases_Bool, false≢true, or_cases, cond-true, false_from_ne_true, eq-eqb}
 use Rattle.ct_latch.specs.Latches.{is_of, bars, with_share}
-use Rattle.ct_definitions.specs.Pairs.{Pair, pair_cmp}
+use Rattle.ct_definitions.specs.Pairs.{Pair}
 use Rattle.ct_node.specs.declared.root.Root.{Root}
 use Rattle.ct_node.specs.declared.target.Target.{Target}
 use Rattle.ct_node.specs.declared.target.Target.TheVariants.{First, Last, At, Before}
 use Rattle.ct_node.specs.declared.target.Place.TheVariants as place
-use Rattle.ct_node.specs.Nodes.{NodeValue, IsNode, pairs_in, is_from, is_below, is_within}
+use Rattle.ct_node.specs.Nodes.{NodeValue, pairs_in}
 use Rattle.ct_node.specs.Places.{is_ahead, is_past, next_place}
-use Rattle.ct_node.specs.Worlds.{World, Holds, page_at, has_latch, is_fresh, with_holds, IsTidy}
-use Rattle.ct_node.proofs.Orders.{below, same, same_below, below-trans, not_above, same_back, above}
+use Rattle.ct_node.specs.Worlds.{World, Holds, page_at, has_latch, with_holds, IsTidy}
+use Rattle.ct_node.proofs.Orders.{below, same, same_below, below-trans, same_back, above}
 use Rattle.ct_tree_laws.specs.declared.walk.Walk.{Walk}
 use Rattle.ct_tree_laws.specs.declared.walk.Stage.{Stage}
 use Rattle.ct_tree_laws.specs.declared.walk.Stage.TheVariants as stage
-use Rattle.ct_tree_laws.specs.Trees.{Tree, IsOf, IsAt, IsTree, IsApart, IsInRole, IsLeaf, IsLower, IsClear, HasPassed, IsNear, IsLowFor, IsAmong, Link, Linked, link_of, link_by, link_in, Rises, Chain, pairs_in_page, pairs_at, joined}
-use Rattle.ct_tree_laws.specs.Stands.{HasNone, IsNearLeaf, IsReachedBySearch, IsAtStage, StandsIn, Stands, Keeps, Stepped, KeepsKeys}
+use Rattle.ct_tree_laws.specs.Trees.{Tree, IsOf, IsAt, IsTree, IsApart, IsInRole, IsLower, HasPassed, IsNear, IsLowFor, IsAmong, Link, Linked, link_of, link_by, link_in, Rises}
+use Rattle.ct_tree_laws.specs.Stands.{HasNone, IsNearLeaf, IsReachedBySearch, StandsIn, Stands, Stepped, KeepsKeys}
 use Rattle.ct_tree_laws.proofs.Taking.{shared, ChangesLatches-share, ChangesLatches-free_all, has_latch-with_share_new, list_any-with_share_more, is_of_parts, is_of_from}
 use Rattle.ct_tree_laws.proofs.Holders.{list_any_gone}
-use Rattle.ct_tree_laws.proofs.Chains.{LowLe, LowLe-refl, IsUnder, IsOver, Roles, role_at, one_node, none_linked, lows_from, link_to, low_of_link, not_below_itself, below_le, Around, around}
+use Rattle.ct_tree_laws.proofs.Chains.{LowLe, Roles, role_at, one_node, none_linked, lows_from, link_to, not_below_itself, below_le}
 use Rattle.ct_tree_laws.proofs.Steps.{IsStep, IsStep-latches}
-use Rattle.ct_tree_laws.proofs.Edits.{joined_around}
-use Rattle.ct_tree_laws.proofs.Keys.{leaf_at, one_tree, KeepsKeys-latches}
-use Rattle.ct_tree_laws.proofs.Walking.{IsSeen, seen_leaf, near_right, near_down, past_low, right_at_of, here_or_end, next_past, next_leaf}
+use Rattle.ct_tree_laws.proofs.Keys.{KeepsKeys-latches}
+use Rattle.ct_tree_laws.proofs.Walking.{right_at_of, here_or_end, next_past, next_leaf}
 use Rattle.ct_tree_laws.proofs.Turns.{at_stage, stepped_same, not_founded}
 use Rattle.ct_tree_laws.proofs.PutTurns.{stepped_by}
 

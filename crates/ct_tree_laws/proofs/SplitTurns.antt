@@ -1,25 +1,29 @@
 -- The turns of a split: a page is allocated, the right half written, and the left node cut.
-use Rattle.std.proofs.Common.{◌≡◌, ℕ, ◌+◌, ◌<◌, ◌≤◌, Bool, true, false, not, cond, List, [], ◌∷◌, length, refl, sym, ap, ◌∙◌, arith, subst, inl, inr, ⊎_elim, Option, Some, None, filter}
-use Rattle.std.specs.Prelude.{IsTrue, ◌⊎◌}
+use Rattle.std.proofs.Common.{◌≡◌, ℕ, ◌<◌, true, false, length, refl, sym, ap, ◌∙◌, arith, subst, ⊎_elim, Some, None}
+use Rattle.std.specs.Prelude.{IsTrue}
 use Rattle.std.proofs.lemmas.Bool.{false≢true}
 use Rattle.std.proofs.lemmas.List.{get_or_past}
-use Rattle.ct_node.specs.declared.root.Root.{Root}
-use Rattle.ct_node.specs.declared.root.Mark.{Mark}
+use Rattle.ct_definitions.specs.Pairs.{Pair}
 use Rattle.ct_node.specs.Nodes.{NodeValue, IsNode}
+use Rattle.ct_node.specs.Roles.{first_of}
+use Rattle.ct_node.proofs.Orders.{below}
 use Rattle.ct_node.specs.Halves.{upper_half, lower_half}
-use Rattle.ct_node.specs.Worlds.{World, Blank, Holds, page_at, has_own, has_fresh, is_fresh, with_fresh, edited, no_mark, IsHeld, WritesRight, CutsLeft, IsTidy}
+use Rattle.ct_node.specs.Worlds.{World, Blank, Holds, page_at, has_fresh, is_fresh, with_fresh, edited, IsHeld, WritesRight, CutsLeft, IsTidy}
 use Rattle.ct_tree_laws.specs.declared.walk.Walk.{Walk}
 use Rattle.ct_tree_laws.specs.declared.walk.Stage.{Stage}
 use Rattle.ct_tree_laws.specs.declared.walk.Stage.TheVariants as stage
-use Rattle.ct_tree_laws.specs.Trees.{Tree, IsOf, IsTree, IsApart, Chain}
-use Rattle.ct_tree_laws.specs.Stands.{IsFull, IsTidyBut, IsAtStage, StandsIn, Stands, Keeps, Stepped, KeepsKeys}
+use Rattle.ct_tree_laws.specs.declared.rise.Separator.{Separator}
+use Rattle.ct_tree_laws.specs.declared.rise.Rise.TheVariants as rise
+use Rattle.ct_tree_laws.specs.Trees.{Chain}
+use Rattle.ct_tree_laws.specs.Stands.{IsFull, IsTidyBut, IsSeparator, StandsIn, Stands, Stepped, KeepsKeys}
 use Rattle.ct_tree_laws.proofs.Pages.{page_within, page_at-edited, page_at-edited_other, page_at-with_fresh, stays_linked, is_fresh_from, has_fresh_before, has_fresh-edited_mine, is_linked-edited, is_fresh-with_fresh, has_fresh-with_fresh, has_fresh_new}
 use Rattle.ct_tree_laws.proofs.Chains.{one_node}
 use Rattle.ct_tree_laws.proofs.Steps.{IsStep, IsStep-next, IsStep-with_fresh, IsStep-from_links}
 use Rattle.ct_tree_laws.proofs.Edits.{LeavesLinks-right, not_theirs_held}
-use Rattle.ct_tree_laws.proofs.Cuts.{IsStep-cut}
+use Rattle.ct_tree_laws.proofs.Cuts.{IsStep-cut, low-upper}
 use Rattle.ct_tree_laws.proofs.Keys.{KeepsKeys-with_fresh, KeepsKeys-right, KeepsKeys-cut}
 use Rattle.ct_tree_laws.proofs.Walking.{onward_of}
+use Rattle.ct_tree_laws.proofs.PostingZeros.{IsMiddle}
 use Rattle.ct_tree_laws.proofs.Turns.{not_founded}
 use Rattle.ct_tree_laws.proofs.PutTurns.{stepped_by, freed, freed_none, free_step, free_keys}
 
@@ -66,7 +70,7 @@ split_enough walk page right node w mid stands is same few = not_founded w mid s
 pub writes_right : (walk : Walk) (page right : ℕ) (node new : NodeValue) (w : World) → page_at w page ≡ Holds node → new ≡ upper_half node → StandsIn walk (stage.Split page right) w → WritesRight walk.op right new w
 writes_right walk page right node new w is made here =
     let full = full_seen walk (stage.Split page right) page here.place.1.0 node w here here.place.1.1 is in
-    record { from = page; node = node; held = full_held walk (stage.Split page right) page node w here full; leaf = full.leaf; enough = full.enough; blank = here.place.0 right here.place.2; mine = here.place.2; made = made }
+    record { from = page; node = node; held = full_held walk (stage.Split page right) page node w here full; enough = full.enough; blank = here.place.0 right here.place.2; mine = here.place.2; made = made }
 
 pub write_stepped : (walk : Walk) (page right : ℕ) (node new : NodeValue) (w now : World) → Stands walk (stage.Split page right) w → page_at w page ≡ Holds node → new ≡ upper_half node → now ≡ edited walk.op right new w → Stepped walk (stage.Cut page right) w now
 write_stepped walk page right node new w now stands is made same = subst (Stepped walk (stage.Cut page right) w) (sym same)
@@ -117,12 +121,12 @@ cut_facts walk page right node w is here =
 pub cuts_left : (walk : Walk) (page right : ℕ) (node new : NodeValue) (w : World) → page_at w page ≡ Holds node → new ≡ lower_half right node → StandsIn walk (stage.Cut page right) w → CutsLeft walk.op page new w
 cuts_left walk page right node new w is made here =
     let facts = cut_facts walk page right node w is here in
-    record { node = node; right = right; held = full_held walk (stage.Cut page right) page node w here facts.0; leaf = facts.0.leaf; enough = facts.0.enough; sound = full_sound walk (stage.Cut page right) page node w here facts.0; mine = here.place.2; upper = facts.1; made = made }
+    record { node = node; right = right; held = full_held walk (stage.Cut page right) page node w here facts.0; enough = facts.0.enough; sound = full_sound walk (stage.Cut page right) page node w here facts.0; mine = here.place.2; upper = facts.1; made = made }
 
 cut_step : (walk : Walk) (page right : ℕ) (node : NodeValue) (w : World) → page_at w page ≡ Holds node → StandsIn walk (stage.Cut page right) w → IsStep walk.op w (edited walk.op page (lower_half right node) w)
 cut_step walk page right node w is here =
     let facts = cut_facts walk page right node w is here in
-    IsStep-cut walk.op page right node w here.apart (full_held walk (stage.Cut page right) page node w here facts.0) facts.0.leaf facts.0.enough here.place.2 facts.1 (full_sound walk (stage.Cut page right) page node w here facts.0)
+    IsStep-cut walk.op page right node w here.apart (full_held walk (stage.Cut page right) page node w here facts.0) facts.0.enough here.place.2 facts.1 (full_sound walk (stage.Cut page right) page node w here facts.0)
 
 cut_tidy : (walk : Walk) (page right : ℕ) (node : NodeValue) (w : World) → page_at w page ≡ Holds node → StandsIn walk (stage.Cut page right) w → IsTidy walk.op (edited walk.op page (lower_half right node) w)
 cut_tidy walk page right node w is here q mine =
@@ -138,14 +142,31 @@ cut_is_tidy walk page right node new w mid stands is made same founded =
     let all : mid ≡ edited walk.op page (lower_half right node) w = same ∙ ap (λ v. edited walk.op page v w) made in
     subst (IsTidy walk.op) (sym all) (cut_tidy walk page right node w is (stands (sym (ap (λ (v : World). v.founded) all) ∙ founded)))
 
-pub cut_stepped : (walk : Walk) (page right : ℕ) (node new : NodeValue) (w mid now : World) → Stands walk (stage.Cut page right) w → page_at w page ≡ Holds node → new ≡ lower_half right node → mid ≡ edited walk.op page new w → now ≡ freed page walk.op mid → Stepped walk stage.Start w now
-cut_stepped walk page right node new w mid now stands is made same gives =
+-- the separator of a split
+cut_separator : (walk : Walk) (page right : ℕ) (node : NodeValue) (low : Pair) (w : World) → page_at w page ≡ Holds node → IsMiddle node low → (here : StandsIn walk (stage.Cut page right) w) → IsSeparator (edited walk.op page (lower_half right node) w) here.tree (record { low = low; child = right; left = page })
+cut_separator walk page right node low w is middle here =
+    let facts = cut_facts walk page right node w is here in
+    let role = here.is.roles page node facts.0.is facts.0.of facts.0.linked in
+    let not_page : right ≡ page → ⊥ = λ one. false≢true (sym facts.0.linked ∙ subst (λ p. is_fresh p w ≡ true) one (is_fresh_from walk.op right w here.place.2)) in (
+      node.leaf,
+      record { node = upper_half node; is = page_at-edited_other walk.op page (lower_half right node) w right not_page ∙ facts.1; of = record { file = facts.0.of.file; index = facts.0.of.index }; key_len = role.key_len; kind = refl; from = low-upper node facts.0.enough ∙ ap Some middle.is; linked = is_linked-edited walk.op page (lower_half right node) w here.apart here.place.2 },
+      middle.key ∙ role.key_len,
+      subst (λ n. below (first_of n None) low ≡ true) role.key_len middle.up,
+    )
+
+pub cut_stepped : (walk : Walk) (page right : ℕ) (node new : NodeValue) (low : Pair) (w mid now : World) → Stands walk (stage.Cut page right) w → page_at w page ≡ Holds node → IsMiddle node low → new ≡ lower_half right node → mid ≡ edited walk.op page new w → now ≡ freed page walk.op mid → Stepped walk (stage.Post (record { low = low; child = right; left = page }) rise.Root) w now
+cut_stepped walk page right node new low w mid now stands is middle made same gives =
     let cut = edited walk.op page (lower_half right node) w in
     let all : now ≡ freed page walk.op cut = gives ∙ ap (freed page walk.op) (same ∙ ap (λ v. edited walk.op page v w) made) in
-    subst (Stepped walk stage.Start w) (sym all)
-    (stepped_by walk (stage.Cut page right) stage.Start w (freed page walk.op (edited walk.op page (lower_half right node) w)) refl stands
+    let s : Separator = record { low = low; child = right; left = page } in
+    subst (Stepped walk (stage.Post s rise.Root) w) (sym all)
+    (stepped_by walk (stage.Cut page right) (stage.Post s rise.Root) w (freed page walk.op (edited walk.op page (lower_half right node) w)) refl stands
     (λ here. let first = cut_step walk page right node w is here in IsStep-next walk.op w cut (freed page walk.op cut) first (free_step page walk.op cut first.apart))
-    (λ here. (cut_tidy walk page right node w is here, freed_none page walk.op (edited walk.op page (lower_half right node) w) here.place.3)))
+    (λ here.
+    let first = cut_step walk page right node w is here in
+    let second = free_step page walk.op cut first.apart in
+    let found = cut_separator walk page right node low w is middle here in
+    ((found.0, second.at here.tree found.0 (Some low) right found.1, found.2, found.3), (cut_tidy walk page right node w is here, freed_none page walk.op (edited walk.op page (lower_half right node) w) here.place.3))))
 
 pub cut_keys : (walk : Walk) (page right : ℕ) (node new : NodeValue) (w mid now : World) → Stands walk (stage.Cut page right) w → page_at w page ≡ Holds node → new ≡ lower_half right node → mid ≡ edited walk.op page new w → now ≡ freed page walk.op mid → KeepsKeys w now
 cut_keys walk page right node new w mid now stands is made same gives founded at keys chain =
@@ -155,5 +176,5 @@ cut_keys walk page right node new w mid now stands is made same gives founded at
     let first = KeepsKeys-cut walk.op page right node w (λ founded.
     let here = stands founded in
     let facts = cut_facts walk page right node w is here in
-    (here.apart, full_held walk (stage.Cut page right) page node w here facts.0, facts.0.leaf, facts.0.enough, here.place.2, facts.1)) founded at keys chain in
+    (here.apart, full_held walk (stage.Cut page right) page node w here facts.0, facts.0.enough, here.place.2, facts.1)) founded at keys chain in
     subst (λ v. Chain v at keys) (sym all) (free_keys page walk.op cut (λ _. (cut_step walk page right node w is here).apart) founded at keys first)

@@ -1,17 +1,16 @@
 -- A call of one operation leaves what every other one remembers.
-use Rattle.std.proofs.Common.{◌≡◌, ℕ, zero, suc, ◌+◌, ◌<◌, ◌≤◌, Bool, true, false, not, List, [], ◌∷◌, ◌++◌, length, refl, sym, ap, ◌∙◌, arith, filter, subst, inl, inr, ⊎_elim, Option, Some, None}
-use Rattle.std.specs.Prelude.{◌⊎◌}
+use Rattle.std.proofs.Common.{◌≡◌, ℕ, Bool, true, List, refl, sym, ap, ◌∙◌, subst, inl, inr, ⊎_elim, Option}
 use Rattle.std.specs.List.{AllPass}
 use Rattle.ct_node.specs.declared.root.Root.{Root}
 use Rattle.ct_node.specs.declared.target.Target.{Target}
 use Rattle.ct_definitions.specs.Pairs.{Pair}
-use Rattle.ct_node.specs.Nodes.{NodeValue, IsNode, pairs_in}
+use Rattle.ct_node.specs.Nodes.{NodeValue, pairs_in}
 use Rattle.ct_node.specs.Places.{is_ahead, is_past}
-use Rattle.ct_node.specs.Worlds.{World, PageValue, Blank, Defines, Holds, DefinitionValue, page_at, has_latch, has_own, has_fresh, is_fresh, with_fresh}
-use Rattle.ct_tree_laws.specs.Trees.{Tree, IsOf, IsAt, IsTree, IsApart, IsLeaf, IsLower, IsClear, HasPassed}
+use Rattle.ct_node.specs.Worlds.{World, Defines, Holds, DefinitionValue, page_at, has_latch, has_own, has_fresh, is_fresh, with_fresh}
+use Rattle.ct_tree_laws.specs.Trees.{Tree, IsTree, IsApart, IsLeaf, IsLower, HasPassed}
 use Rattle.ct_tree_laws.proofs.Taking.{ChangesLatches}
 use Rattle.ct_tree_laws.proofs.Pages.{page_at-with_fresh, is_fresh-with_fresh, page_within, IsApart-with_fresh, has_fresh-with_fresh_other}
-use Rattle.ct_tree_laws.proofs.Kept.{KeepsAt, KeepsLinks, KeepsDefinitions, IsReached, IsAlike, IsAlike-same, KeepsAt-from_links, IsTree-kept}
+use Rattle.ct_tree_laws.proofs.Kept.{KeepsAt, KeepsLinks, IsReached, IsAlike-same, KeepsAt-from_links, IsTree-kept, named_kept}
 use Rattle.ct_tree_laws.proofs.Chains.{one_node}
 use Rattle.ct_tree_laws.specs.Left.{HasPassedLeft}
 use Rattle.ct_tree_laws.proofs.LeftKept.{HasPassedLeft-kept}
@@ -27,6 +26,7 @@ pub record IsStep (op : ℕ) (w now : World) : Type 0 where
   pub fresh : (other page : ℕ) → (other ≡ op → ⊥) → has_fresh other page now ≡ has_fresh other page w
   pub held : (other page : ℕ) (node : NodeValue) → (other ≡ op → ⊥) → has_latch other page w ≡ true → IsReached w page node → IsReached now page node
   pub blank : (other page : ℕ) → (other ≡ op → ⊥) → has_fresh other page w ≡ true → page_at now page ≡ page_at w page
+  pub defined : (other page : ℕ) (def : DefinitionValue) → (other ≡ op → ⊥) → has_latch other page w ≡ true → page_at w page ≡ Defines def → page_at now page ≡ Defines def
   pub passed : (other : ℕ) (t : Tree) (or_at : Bool) (target : Target) (low : Option Pair) → (other ≡ op → ⊥) → HasPassed w t other or_at target low → HasPassed now t other or_at target low
   pub left : (other : ℕ) (t : Tree) (or_at : Bool) (target : Target) (low : Pair) → (other ≡ op → ⊥) → HasPassedLeft w t other or_at target low → HasPassedLeft now t other or_at target low
 
@@ -41,6 +41,7 @@ IsStep-none op w apart = record {
   fresh = λ other page differ. refl;
   held = λ other page node differ latched reached. reached;
   blank = λ other page differ mine. refl;
+  defined = λ other page def differ latched is. is;
   passed = λ other t or_at target low differ passed. passed;
   left = λ other t or_at target low differ passed. passed;
 }
@@ -56,6 +57,7 @@ IsStep-next op w mid now first second = record {
   fresh = λ other page differ. second.fresh other page differ ∙ first.fresh other page differ;
   held = λ other page node differ latched reached. second.held other page node differ (first.latch other page differ ∙ latched) (first.held other page node differ latched reached);
   blank = λ other page differ mine. second.blank other page differ (first.fresh other page differ ∙ mine) ∙ first.blank other page differ mine;
+  defined = λ other page def differ latched is. second.defined other page def differ (first.latch other page differ ∙ latched) (first.defined other page def differ latched is);
   passed = λ other t or_at target low differ passed. second.passed other t or_at target low differ (first.passed other t or_at target low differ passed);
   left = λ other t or_at target low differ passed. second.left other t or_at target low differ (first.left other t or_at target low differ passed);
 }
@@ -63,7 +65,7 @@ IsStep-next op w mid now first second = record {
 -- where links stay, what a search has passed stays passed
 pub HasPassed-kept : (w now : World) (other : ℕ) → KeepsLinks w now → ((page : ℕ) → has_latch other page now ≡ has_latch other page w) → ((page : ℕ) (node : NodeValue) → has_latch other page w ≡ true → IsReached w page node → IsReached now page node) → (t : Tree) (or_at : Bool) (target : Target) (low : Option Pair) → HasPassed w t other or_at target low → HasPassed now t other or_at target low
 HasPassed-kept w now other keeps latch held t or_at target low passed page node leaf lower =
-    let before = keeps.back page node (record { is = leaf.is; linked = leaf.linked }) in
+    let before = keeps.back page node (record { is = leaf.is; linked = leaf.linked }) leaf.leaf in
     let alike = before.2 in
     let was : IsLeaf w t page before.0 = record { is = before.1.is; of = record { file = sym alike.file ∙ leaf.of.file; index = sym alike.index ∙ leaf.of.index }; leaf = sym alike.leaf ∙ leaf.leaf; linked = before.1.linked } in
     ⊎_elim
@@ -84,6 +86,7 @@ pub record LeavesLinks (op : ℕ) (w now : World) : Type 0 where
   pub fresh : (other page : ℕ) → (other ≡ op → ⊥) → has_fresh other page now ≡ has_fresh other page w
   pub held : (other page : ℕ) (node : NodeValue) → (other ≡ op → ⊥) → has_latch other page w ≡ true → IsReached w page node → IsReached now page node
   pub blank : (other page : ℕ) → (other ≡ op → ⊥) → has_fresh other page w ≡ true → page_at now page ≡ page_at w page
+  pub defined : (other page : ℕ) (def : DefinitionValue) → (other ≡ op → ⊥) → has_latch other page w ≡ true → page_at w page ≡ Defines def → page_at now page ≡ Defines def
 
 pub IsStep-from_links : (op : ℕ) (w now : World) → LeavesLinks op w now → IsStep op w now
 IsStep-from_links op w now leaves = record {
@@ -96,6 +99,7 @@ IsStep-from_links op w now leaves = record {
   fresh = leaves.fresh;
   held = leaves.held;
   blank = leaves.blank;
+  defined = leaves.defined;
   passed = λ other t or_at target low differ. HasPassed-kept w now other leaves.links (λ page. leaves.latch other page differ) (λ page node. leaves.held other page node differ) t or_at target low;
   left = λ other t or_at target low differ. HasPassedLeft-kept w now other leaves.links (λ page. leaves.latch other page differ) (λ page node. leaves.held other page node differ) t or_at target low;
 }
@@ -104,11 +108,15 @@ IsStep-from_links op w now leaves = record {
 KeepsLinks-same : (w now : World) → ((page : ℕ) → page_at now page ≡ page_at w page) → ((page : ℕ) (node : NodeValue) → page_at w page ≡ Holds node → is_fresh page now ≡ is_fresh page w) → KeepsLinks w now
 KeepsLinks-same w now same fresh = record {
   onward = λ page node reached. (node, record { is = same page ∙ reached.is; linked = fresh page node reached.is ∙ reached.linked }, IsAlike-same node);
-  back = λ page node reached.
-      let is : page_at w page ≡ Holds node = sym (same page) ∙ reached.is in
-      (node, record { is = is; linked = sym (fresh page node is) ∙ reached.linked }, IsAlike-same node);
-  definitions = λ page def is. same page ∙ is;
+  back = λ page node reached leaf. (node, before page node reached, IsAlike-same node);
+  inner = λ page node reached inner at t leaves tree of. let was = before page node reached in tree.roles page node was.is of was.linked;
+  named = named_kept w now (λ page def is. same page ∙ is);
 }
+  where
+    before : (page : ℕ) (node : NodeValue) → IsReached now page node → IsReached w page node
+    before page node reached =
+        let is : page_at w page ≡ Holds node = sym (same page) ∙ reached.is in
+        record { is = is; linked = sym (fresh page node is) ∙ reached.linked }
 
 pub LeavesLinks-latches : (op : ℕ) (w now : World) → IsApart w → ChangesLatches op w now → LeavesLinks op w now
 LeavesLinks-latches op w now apart changes =
@@ -123,6 +131,7 @@ LeavesLinks-latches op w now apart changes =
       fresh = λ other page differ. ap (λ fresh. has_fresh other page (record w { fresh = fresh })) changes.fresh;
       held = λ other page node differ latched reached. record { is = same page ∙ reached.is; linked = linked page ∙ reached.linked };
       blank = λ other page differ mine. same page;
+      defined = λ other page def differ latched is. same page ∙ is;
     }
 
 pub IsStep-latches : (op : ℕ) (w now : World) → IsApart w → ChangesLatches op w now → IsStep op w now
@@ -139,6 +148,7 @@ LeavesLinks-with_fresh op w apart =
       fresh = has_fresh-with_fresh_other op w;
       held = λ other page node differ latched reached. record { is = page_at-with_fresh op w page ∙ reached.is; linked = is_fresh-with_fresh op w page (page_within w page node reached.is) ∙ reached.linked };
       blank = λ other page differ mine. page_at-with_fresh op w page;
+      defined = λ other page def differ latched is. page_at-with_fresh op w page ∙ is;
     }
 
 pub IsStep-with_fresh : (op : ℕ) (w : World) → IsApart w → IsStep op w (with_fresh op w)

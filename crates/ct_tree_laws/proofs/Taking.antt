@@ -1,13 +1,13 @@
 -- Latches taken and given back: what others have stays, and no two conflict.
-use Rattle.std.proofs.Common.{◌≡◌, ℕ, ◌+◌, ◌<◌, ◌≤◌, Bool, true, false, not, ◌&&◌, ◌||◌, cond, List, [], ◌∷◌, ◌++◌, length, refl, sym, ap, ◌∙◌, arith, filter, subst, inl, inr, ⊎_elim, Option, Some, None, eqb}
+use Rattle.std.proofs.Common.{◌≡◌, ℕ, Bool, true, false, not, ◌&&◌, ◌||◌, cond, List, refl, sym, ap, ◌∙◌, filter, subst, inl, inr, ⊎_elim, None, eqb}
 use Rattle.std.specs.Prelude.{◌==◌, find, ◌⊎◌}
 use Rattle.std.specs.List.{list_any}
-use Rattle.std.proofs.lemmas.Bool.{cases_Bool, cases_eq, false≢true, and_parts, eqb-true, eq-eqb, ne_eqb, and_from, and_left, and_right, or_right, or_from, not_from_false, not_from_true, not-true}
+use Rattle.std.proofs.lemmas.Bool.{cases_eq, false≢true, and_parts, eqb-true, eq-eqb, ne_eqb, and_from, and_left, and_right, or_right}
 use Rattle.ct_latch.specs.declared.hold.Hold.{Hold}
-use Rattle.ct_latch.specs.Latches.{is_of, bars, with_hold, with_share, comes_before}
-use Rattle.ct_node.specs.Worlds.{World, is_own_of, has_latch, has_own, has_fresh, is_fresh, is_owner, with_holds}
+use Rattle.ct_latch.specs.Latches.{is_of, bars, with_hold, with_share}
+use Rattle.ct_node.specs.Worlds.{World, is_own_of, has_latch, has_own, with_holds}
 use Rattle.ct_tree_laws.specs.Trees.{IsApart}
-use Rattle.ct_tree_laws.proofs.Holders.{list_any_weaker, list_any-filter, list_any_filtered, list_any_gone, list_any_not_found, list_any-with_hold_new, list_any-with_hold_other, list_any-with_hold_more, list_any-with_hold_old}
+use Rattle.ct_tree_laws.proofs.Holders.{list_any_weaker, list_any-filter, list_any_filtered, list_any_not_found, list_any-with_hold_new, list_any-with_hold_other, list_any-with_hold_more, list_any-with_hold_old}
 
 pub is_of_parts : (page op : ℕ) (hold : Hold) → is_of page op hold ≡ true → (hold.node ≡ page) × (hold.op ≡ op)
 is_of_parts page op hold is =
@@ -110,6 +110,7 @@ apart_taken page op own w holds free old apart = record {
   within = apart.within;
   some = apart.some;
   zero = apart.zero;
+  settled = apart.settled;
   files = apart.files;
 }
   where
@@ -160,6 +161,7 @@ ChangesLatches-given op keeps w kept = record {
     within = apart.within;
     some = apart.some;
     zero = apart.zero;
+    settled = apart.settled;
     files = apart.files;
   };
 }

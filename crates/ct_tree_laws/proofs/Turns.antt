@@ -1,9 +1,7 @@
 -- The turns of a descent: each ends at a stage that stands.
-use Rattle.std.proofs.Common.{◌≡◌, ℕ, Bool, true, false, List, length, refl, sym, ap, ◌∙◌, subst, inl, inr, ⊎_elim, Option, Some, None}
-use Rattle.std.specs.Prelude.{IsTrue, ◌⊎◌}
-use Rattle.std.proofs.lemmas.Bool.{false_from_ne_true, true≢false, false≢true}
-use Rattle.ct_node.specs.declared.root.Root.{Root}
-use Rattle.ct_node.specs.declared.target.Target.{Target}
+use Rattle.std.proofs.Common.{◌≡◌, ℕ, true, false, refl, sym, ap, ◌∙◌, subst}
+use Rattle.std.specs.Prelude.{IsTrue}
+use Rattle.std.proofs.lemmas.Bool.{false_from_ne_true, true≢false}
 use Rattle.ct_node.specs.declared.target.Place.{Place}
 use Rattle.ct_node.specs.declared.target.Place.TheVariants.{Right, Down, Here, End}
 use Rattle.ct_node.specs.Nodes.{NodeValue}
@@ -12,8 +10,7 @@ use Rattle.ct_node.specs.Worlds.{World, Holds, page_at}
 use Rattle.ct_tree_laws.specs.declared.walk.Walk.{Walk}
 use Rattle.ct_tree_laws.specs.declared.walk.Stage.{Stage}
 use Rattle.ct_tree_laws.specs.declared.walk.Stage.TheVariants as stage
-use Rattle.ct_tree_laws.specs.Trees.{Tree, IsAt, IsNear}
-use Rattle.ct_tree_laws.specs.Stands.{IsNearLeaf, IsAtStage, StandsIn, Stands, Keeps, Stepped, KeepsKeys}
+use Rattle.ct_tree_laws.specs.Stands.{IsAtStage, StandsIn, Stands, Stepped, KeepsKeys}
 use Rattle.ct_tree_laws.proofs.Walking.{IsSeen, IsLast, seen_near, near_right, near_down, last_here}
 
 -- the same operation at another stage in the same world

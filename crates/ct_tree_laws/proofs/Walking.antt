@@ -1,22 +1,22 @@
 -- Where a walk to a target goes on: right or down to a page that begins at the target or below it, and at last to a leaf.
-use Rattle.std.proofs.Common.{◌≡◌, ℕ, zero, suc, ◌+◌, ◌-◌, ◌<◌, ◌≤◌, Bool, true, false, not, ◌&&◌, ◌||◌, cond, List, [], ◌∷◌, ◌++◌, length, map, refl, sym, ap, ◌∙◌, arith, subst, inl, inr, ⊎_elim, Option, Some, None}
+use Rattle.std.proofs.Common.{◌≡◌, ℕ, zero, suc, ◌+◌, ◌-◌, ◌≤◌, Bool, true, false, not, cond, List, [], ◌∷◌, length, map, refl, sym, ap, ◌∙◌, arith, subst, inl, inr, ⊎_elim, Option, Some, None}
 use Rattle.std.specs.Prelude.{◌⊎◌, slice_get, nat_lt}
 use Rattle.std.specs.List.{All, prefix_len}
-use Rattle.std.proofs.lemmas.Bool.{cases_Bool, false≢true, true≢false, not-true, not-false, or_left, or_right, or_cases, cond-true, cond-false, and_from, false_from_ne_true}
+use Rattle.std.proofs.lemmas.Bool.{cases_Bool, false≢true, not-true, not-false, or_left, or_right, or_cases, cond-true, cond-false, and_from, false_from_ne_true}
 use Rattle.std.proofs.lemmas.List.Elements.{All-head, All-tail}
 use Rattle.ct_node.specs.declared.root.Root.{Root}
 use Rattle.ct_node.specs.declared.target.Target.{Target}
 use Rattle.ct_node.specs.declared.target.Target.TheVariants.{First, Last, At, Before}
 use Rattle.ct_node.specs.declared.target.Place.{Place}
 use Rattle.ct_node.specs.declared.target.Place.TheVariants.{Right, Down, Here, End}
-use Rattle.ct_definitions.specs.Pairs.{Pair, pair_cmp}
-use Rattle.ct_node.specs.Nodes.{Entry, NodeValue, IsNode, pair_in, pairs_in, is_from, is_below, is_within}
-use Rattle.ct_node.specs.Places.{is_before, is_past, is_ahead, here, down, next_place}
+use Rattle.ct_definitions.specs.Pairs.{Pair}
+use Rattle.ct_node.specs.Nodes.{Entry, NodeValue, pair_in, pairs_in, is_from, is_below, is_within}
+use Rattle.ct_node.specs.Places.{is_past, is_ahead, here, down, next_place}
 use Rattle.ct_node.specs.Worlds.{World, Holds, page_at, is_fresh}
 use Rattle.ct_node.proofs.Orders.{below, same, same_below, same_back, above, not_above}
-use Rattle.ct_tree_laws.specs.Trees.{Tree, IsOf, IsAt, Link, link_of, link_by, IsInner, IsInRole, IsTree, IsApart, IsNear, IsLowFor}
+use Rattle.ct_tree_laws.specs.Trees.{Tree, IsOf, IsAt, link_by, IsInner, IsInRole, IsTree, IsApart, IsNear, IsLowFor}
 use Rattle.ct_tree_laws.specs.Stands.{IsNearLeaf}
-use Rattle.ct_tree_laws.proofs.Chains.{one_node, link_to, Roles, not_below_itself}
+use Rattle.ct_tree_laws.proofs.Chains.{one_node, not_below_itself}
 
 -- a bound that a target is past is at it or below it
 pub past_low : (target : Target) (high : Pair) → is_past (Some high) target ≡ true → is_ahead true target high ≡ true

@@ -1,20 +1,25 @@
 -- What holds between the turns of an operation: what it remembers still stands.
-use Rattle.std.specs.Prelude.{◌≡◌, ℕ, ◌<◌, ◌≤◌, ◌==◌, ◌&&◌, List, length, Bool, true, false, not, Option, Some, None, IsTrue, filter, if◌then◌else◌}
-use Rattle.std.specs.Ordering.{is_eq}
+use Rattle.std.specs.Prelude.{[], ◌≡◌, ℕ, ◌<◌, ◌≤◌, ◌==◌, ◌&&◌, List, length, Bool, true, false, not, Option, Some, None, IsTrue, filter, if◌then◌else◌, ◌∷◌, ◌⊎◌, slice_get}
+use Rattle.std.specs.Ordering.{is_lt, is_eq}
 use Rattle.ct_definitions.specs.Pairs.{Pair, pair_cmp, with_pair}
 use Rattle.ct_node.specs.declared.root.Root.{Root}
 use Rattle.ct_node.specs.declared.target.Target.{Target}
-use Rattle.ct_node.specs.declared.target.Target.TheVariants.{First, Last, At, Before}
-use Rattle.ct_node.specs.Nodes.{NodeValue, has_pair, has_other_pair}
+use Rattle.ct_node.specs.declared.target.Target.TheVariants.{At, Before}
+use Rattle.ct_node.specs.declared.root.IndexRow.{IndexRow}
+use Rattle.ct_node.specs.Nodes.{Entry, NodeValue, has_pair, is_within, capacity_of}
 use Rattle.ct_node.specs.Halves.{upper_half}
-use Rattle.ct_node.specs.Worlds.{World, Holds, Blank, page_at, has_latch, has_own, has_fresh, is_fresh, IsTidy}
+use Rattle.ct_node.specs.Roles.{first_of}
+use Rattle.ct_node.specs.Worlds.{World, DefinitionValue, Defines, Holds, Blank, page_at, has_latch, has_own, has_fresh, is_fresh, IsTidy}
 use Rattle.ct_tree_laws.specs.declared.walk.Walk.{Walk}
 use Rattle.ct_tree_laws.specs.declared.walk.Stage.{Stage}
-use Rattle.ct_tree_laws.specs.declared.walk.Stage.TheVariants.{Start, Down, Leaf, Held, Full, Split, Cut, Share, Shared, Ended, SharedLeft, Left}
-use Rattle.ct_tree_laws.specs.Trees.{Tree, IsOf, IsAt, IsTree, IsApart, IsNear, IsLowFor, HasPassed, Chain}
+use Rattle.ct_tree_laws.specs.declared.walk.Stage.TheVariants.{Start, Down, Leaf, Held, Full, Split, Cut, Share, Shared, Ended, SharedLeft, Left, Post}
+use Rattle.ct_tree_laws.specs.Trees.{Tree, IsOf, IsAt, IsTree, IsApart, IsNear, IsLowFor, HasPassed, Chain, IsInRole}
 use Rattle.ct_tree_laws.specs.declared.left.Way.{Way}
 use Rattle.ct_tree_laws.specs.declared.left.Way.TheVariants as way
 use Rattle.ct_tree_laws.specs.Left.{HasPassedLeft}
+use Rattle.ct_tree_laws.specs.declared.rise.Separator.{Separator}
+use Rattle.ct_tree_laws.specs.declared.rise.Rise.{Rise}
+use Rattle.ct_tree_laws.specs.declared.rise.Rise.TheVariants as rise
 
 -- a leaf from which a walk to the right reaches the target
 abbrev pub IsNearLeaf : World → Tree → Target → ℕ → Type 0
@@ -52,6 +57,94 @@ HasNone op w = (page : ℕ) → has_latch op page w ≡ false
 abbrev pub HasOnly : ℕ → ℕ → World → Type 0
 HasOnly op page w = (other : ℕ) → has_latch op other w ≡ true → other ≡ page
 
+-- a separator is above all zeros and leads to a node of the tree that begins at it
+abbrev pub IsSeparator : World → Tree → Separator → Type 0
+IsSeparator w t separator = (leaf : Bool) × IsAt w t leaf (Some separator.low) separator.child × (length separator.low.key ≡ t.key_len) × (is_lt (pair_cmp (first_of t.key_len None) separator.low) ≡ true)
+
+-- an inner node from which a walk to the right reaches the separator
+abbrev pub IsAbove : World → Tree → Separator → ℕ → Type 0
+IsAbove w t separator page = (low : Option Pair) × IsAt w t false low page × IsLowFor (At separator.low) low
+
+-- the node from which a walk last went down, where it went down
+abbrev pub IsAboveIf : World → Tree → Separator → Option ℕ → Type 0
+IsAboveIf w t separator None = Unit {0}
+IsAboveIf w t separator (Some page) = IsAbove w t separator page
+
+-- the operation has an inner node for itself, and the separator lies within its bounds
+pub record IsChosen (w : World) (t : Tree) (op : ℕ) (separator : Separator) (page : ℕ) (node : NodeValue) : Type 0 where
+  pub is : page_at w page ≡ Holds node
+  pub owned : has_own op page w ≡ true
+  pub linked : is_fresh page w ≡ false
+  pub of : IsOf t node
+  pub inner : node.leaf ≡ false
+  pub within : is_within node.low node.high separator.low ≡ true
+
+-- a node that is to be split, before the separator is posted to one of its halves
+abbrev pub IsCrowded : World → Tree → ℕ → Separator → ℕ → NodeValue → Type 0
+IsCrowded w t op separator page node = IsChosen w t op separator page node × (2 ≤ length node.entries)
+
+-- a half of a split has room for the separator, and its own separator is to be posted next
+abbrev pub IsHalf : World → Tree → ℕ → Separator → ℕ → Option Separator → Type 0
+IsHalf w t op separator page None = Unit {0}
+IsHalf w t op separator page (Some next) = IsSeparator w t next × ((node : NodeValue) × IsChosen w t op separator page node × (length node.entries < capacity_of node.key_len false))
+
+-- an operation has latches on these two pages at most
+abbrev pub HasBoth : ℕ → ℕ → ℕ → World → Type 0
+HasBoth op page right w = (other : ℕ) → has_latch op other w ≡ true → (other ≡ page) ⊎ (other ≡ right)
+
+-- the operation has the definition page of the tree for itself, and no other latch
+pub record HasDefinition (w : World) (t : Tree) (op : ℕ) (def : DefinitionValue) : Type 0 where
+  pub page : ℕ
+  pub is : page_at w page ≡ Defines def
+  pub file : def.file ≡ t.file
+  pub owned : has_own op page w ≡ true
+  pub only : HasOnly op page w
+
+-- and the root is still the page that was split
+pub record HasRoot (w : World) (t : Tree) (op : ℕ) (separator : Separator) : Type 0 where
+  pub def : DefinitionValue
+  pub row : IndexRow
+  pub has : HasDefinition w t op def
+  pub named : slice_get def.rows t.index ≡ Some row
+  pub old : row.root ≡ separator.left
+
+-- an inner node over one page, open to both sides
+abbrev pub node_over : NodeValue → ℕ → NodeValue
+node_over node page = record { file = node.file; index = node.index; leaf = false; key_len = node.key_len; low = None; high = None; right = 0; entries = record { pair = first_of node.key_len None; child = page } ∷ [] }
+
+-- a new root that is not named yet: an inner node, open to both sides, whose first page below is the old root
+pub record IsCrown (w : World) (t : Tree) (separator : Separator) (node : NodeValue) : Type 0 where
+  pub first : Entry
+  pub rest : List Entry
+  pub of : IsOf t node
+  pub inner : node.leaf ≡ false
+  pub low : node.low ≡ None
+  pub high : node.high ≡ None
+  pub entries : node.entries ≡ first ∷ rest
+  pub old : first.child ≡ separator.left
+  pub role : IsInRole w t node
+
+-- what an operation knows at each step of the posting of a separator
+abbrev pub IsAtRise : World → Tree → ℕ → Separator → Rise → Type 0
+IsAtRise w t op separator rise.Root = IsTidy op w × HasNone op w
+IsAtRise w t op separator (rise.Down page above) = IsTidy op w × IsNear w t (At separator.low) page × IsAboveIf w t separator above × HasNone op w
+IsAtRise w t op separator (rise.Above page) = IsTidy op w × IsAbove w t separator page × HasNone op w
+IsAtRise w t op separator (rise.Held page next) = IsTidy op w × IsAbove w t separator page × (has_own op page w ≡ true) × HasOnly op page w × IsHalf w t op separator page next
+IsAtRise w t op separator (rise.Full page) = IsTidy op w × ((node : NodeValue) × IsCrowded w t op separator page node) × HasOnly op page w
+IsAtRise w t op separator (rise.Fresh page right) = IsTidy op w × ((node : NodeValue) × IsCrowded w t op separator page node) × (has_fresh op right w ≡ true) × HasOnly op page w
+IsAtRise w t op separator (rise.Split page right) = IsTidy op w × ((node : NodeValue) × IsCrowded w t op separator page node) × (has_fresh op right w ≡ true) × (has_own op right w ≡ true) × HasBoth op page right w
+IsAtRise w t op separator (rise.Cut page right) = IsTidyBut op right w × ((node : NodeValue) × IsCrowded w t op separator page node × (page_at w right ≡ Holds (upper_half node))) × (has_fresh op right w ≡ true) × (has_own op right w ≡ true) × HasBoth op page right w
+IsAtRise w t op separator rise.Again = IsTidy op w × HasNone op w
+IsAtRise w t op separator rise.Named = IsTidy op w × ((def : DefinitionValue) × HasDefinition w t op def)
+IsAtRise w t op separator rise.Grow = IsTidy op w × HasRoot w t op separator
+IsAtRise w t op separator (rise.Crown root) = IsTidy op w × HasRoot w t op separator × (has_fresh op root w ≡ true)
+IsAtRise w t op separator (rise.Crowned root) = IsTidyBut op root w × HasRoot w t op separator × (has_fresh op root w ≡ true) × ((node : NodeValue) × (page_at w root ≡ Holds node) × IsCrown w t separator node)
+
+-- where a put goes on once a separator is posted: with the next one, or anew with its pair
+abbrev pub after_post : Option Separator → Stage
+after_post None = Start
+after_post (Some next) = Post next rise.Root
+
 -- what an operation knows at each of its stages
 abbrev pub IsAtStage : World → Tree → ℕ → Target → Stage → Type 0
 IsAtStage w t op target Start = IsTidy op w × HasNone op w
@@ -65,6 +158,7 @@ IsAtStage w t op target (Share page above) = IsTidy op w × IsReachedBySearch w 
 IsAtStage w t op target (Shared page above) = IsTidy op w × IsReachedBySearch w t op above target page × (has_latch op page w ≡ true)
 IsAtStage w t op target (SharedLeft page) = IsTidy op w × IsNearLeaf w t target page × (has_latch op page w ≡ true)
 IsAtStage w t op target (Left low or_at on) = IsTidy op w × HasPassedLeft w t op or_at target low × IsOnWay w t op (Before low) on
+IsAtStage w t op target (Post separator rise) = IsSeparator w t separator × IsAtRise w t op separator rise
 IsAtStage w t op target Ended = HasNone op w
 
 -- an operation on a tree: the tree stands, no latches conflict, the target's key is as long as the tree's keys, and what the operation knows of its stage holds

@@ -1,14 +1,15 @@
 -- An index as a tree with right links: which pages its nodes stand in, and how they hang together.
-use Rattle.std.specs.Prelude.{◌≡◌, ℕ, ◌<◌, ◌≤◌, List, [], ◌∷◌, length, flat_map, slice_get, Bool, true, false, Option, Some, None, IfSome, IsTrue, ◌⊎◌}
+use Rattle.std.specs.Prelude.{◌≡◌, ℕ, ◌<◌, ◌≤◌, List, [], ◌∷◌, length, flat_map, slice_get, Bool, true, false, Option, Some, None, ◌⊎◌}
 use Rattle.std.specs.List.{All, AllPass}
-use Rattle.std.specs.Ordering.{is_lt}
+use Rattle.std.specs.Ordering.{is_lt, is_eq}
 use Rattle.ct_definitions.specs.Pairs.{Pair, pair_cmp}
 use Rattle.ct_node.specs.declared.root.Root.{Root}
 use Rattle.ct_node.specs.declared.target.Target.{Target}
 use Rattle.ct_node.specs.declared.root.IndexRow.{IndexRow}
 use Rattle.ct_node.specs.Nodes.{Entry, NodeValue, IsNode, pairs_in}
 use Rattle.ct_node.specs.Places.{is_ahead, is_past}
-use Rattle.ct_node.specs.Worlds.{World, PageValue, DefinitionValue, Blank, Defines, Holds, page_at, has_latch, has_own, has_fresh, is_fresh, row_in}
+use Rattle.ct_node.specs.Roles.{first_of}
+use Rattle.ct_node.specs.Worlds.{World, PageValue, DefinitionValue, Blank, Defines, Holds, page_at, has_latch, has_own, has_fresh, is_fresh}
 
 -- a tree: the file and the index that each of its nodes bears, the length of its keys, and the page of its first leaf
 pub record Tree : Type 0 where
@@ -51,11 +52,12 @@ Rises low None = Unit {0}
 Rises None (Some high) = Unit {0}
 Rises (Some low) (Some high) = is_lt (pair_cmp low high) ≡ true
 
--- an inner node leads down to pages that begin where their entries do; the first one begins where the node does
+-- an inner node begins at its low bound and leads down to pages that begin where their entries do; the first one begins where the node does
 pub record IsInner (w : World) (t : Tree) (node : NodeValue) : Type 0 where
   pub first : Entry
   pub rest : List Entry
   pub is : node.entries ≡ first ∷ rest
+  pub begins : is_eq (pair_cmp first.pair (first_of node.key_len node.low)) ≡ true
   pub least : (leaf : Bool) × IsAt w t leaf node.low first.child
   pub others : All (λ entry. (leaf : Bool) × IsAt w t leaf (Some entry.pair) entry.child) rest
 
@@ -119,13 +121,14 @@ pub record Chain (w : World) (at : Root) (keys : List Pair) : Type 0 where
   pub is : IsTree w at tree leaves
   pub keys_are : joined w leaves ≡ keys
 
--- no two operations hold conflicting latches, a page that no link reaches belongs to one operation, and no two definitions are of one file
+-- no two operations hold conflicting latches, a page that no link reaches belongs to one operation and has no definition, and no two definitions are of one file
 pub record IsApart (w : World) : Type 0 where
   pub latches : (page op other : ℕ) → has_own op page w ≡ true → has_latch other page w ≡ true → other ≡ op
   pub owners : (page op other : ℕ) → has_fresh op page w ≡ true → has_fresh other page w ≡ true → other ≡ op
   pub within : (page : ℕ) → is_fresh page w ≡ true → page < length w.pages
   pub some : 1 ≤ length w.pages
   pub zero : is_fresh 0 w ≡ false
+  pub settled : (page : ℕ) (def : DefinitionValue) → page_at w page ≡ Defines def → is_fresh page w ≡ false
   pub files : (page other : ℕ) (def also : DefinitionValue) → page_at w page ≡ Defines def → page_at w other ≡ Defines also → def.file ≡ also.file → other ≡ page
 
 -- a low bound is not above a target

@@ -3,7 +3,9 @@
 #![tactic(auto)]
 
 mod left;
+mod rise;
 mod walk;
 
 pub use left::Way;
+pub use rise::{Rise, Separator};
 pub use walk::{Stage, Walk};

@@ -1,6 +1,7 @@
 //! What an operation on a tree remembers between its turns.
 
 use crate::left::Way;
+use crate::rise::{Rise, Separator};
 use ct_node::{Pair, Root, Target};
 
 /// An operation: its number, the index and what it looks for.
@@ -38,6 +39,8 @@ pub enum Stage {
     /// All leaves from `low` on are passed, by a search for pairs below the target, or also at it;
     /// it is on its way to the leaf that ends at `low`.
     Left { low: Pair, or_at: bool, way: Way },
+    /// The separator of a split is to be posted.
+    Post { separator: Separator, rise: Rise },
     /// The operation has ended.
     Ended,
 }

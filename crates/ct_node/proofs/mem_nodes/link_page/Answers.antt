@@ -1,4 +1,4 @@
-use Rattle.std.proofs.Common.{◌≡◌, Bool, not, filter, rules, of_calls}
+use Rattle.std.proofs.Common.{Bool, not, rules, of_calls}
 use Rattle.std.proofs.lemmas.Fn.{filter_same}
 use Rattle.ct_node.specs.declared.root.Owner.{Owner}
 use Rattle.ct_node.specs.Worlds.{is_owner}

@@ -38,6 +38,12 @@ returns-in-Cut-clause-keys g c = puts_going c.args.walk.now c.cut_left.result.1 
 pub returns-in-Cut-clause-goes : goal.returns-in-Cut-clause-goes
 returns-in-Cut-clause-goes g c = goes_going c.cut_left.result.1 c.cut_left.result.0 c.cut_left.ensures.going c.cut_left.ensures.putting
 
+pub returns-in-Post-clause-keys : goal.returns-in-Post-clause-keys
+returns-in-Post-clause-keys g c = puts_going c.args.walk.now c.post.result.1 (g.N.Nodes.world c.args.nodes.now) (g.N.Nodes.world c.post.new.nodes) c.post.ensures.going c.post.ensures.keys
+
+pub returns-in-Post-clause-goes : goal.returns-in-Post-clause-goes
+returns-in-Post-clause-goes g c = goes_going c.post.result.1 c.post.result.0 c.post.ensures.going c.post.ensures.putting
+
 pub returns-in-Start-clause-bears : goal.returns-in-Start-clause-bears
 returns-in-Start-clause-bears g c = bears_put_going c.args.walk.now c.args.mark c.start.result.1 (g.N.Nodes.world c.args.nodes.now) (g.N.Nodes.marked c.args.nodes.now) (g.N.Nodes.marked c.start.new.nodes) c.start.ensures.going (inl c.start.ensures.bears)
 
@@ -55,3 +61,6 @@ returns-in-Split-clause-bears g c = bears_put_going c.args.walk.now c.args.mark 
 
 pub returns-in-Cut-clause-bears : goal.returns-in-Cut-clause-bears
 returns-in-Cut-clause-bears g c = bears_put_going c.args.walk.now c.args.mark c.cut_left.result.1 (g.N.Nodes.world c.args.nodes.now) (g.N.Nodes.marked c.args.nodes.now) (g.N.Nodes.marked c.cut_left.new.nodes) c.cut_left.ensures.going c.cut_left.ensures.bears
+
+pub returns-in-Post-clause-bears : goal.returns-in-Post-clause-bears
+returns-in-Post-clause-bears g c = bears_put_going c.args.walk.now c.args.mark c.post.result.1 (g.N.Nodes.world c.args.nodes.now) (g.N.Nodes.marked c.args.nodes.now) (g.N.Nodes.marked c.post.new.nodes) c.post.ensures.going c.post.ensures.bears

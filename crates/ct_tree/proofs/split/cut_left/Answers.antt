@@ -1,5 +1,6 @@
-use Rattle.std.proofs.Common.{◌≡◌, ◌<◌, length, arith, refl}
+use Rattle.std.proofs.Common.{◌≡◌, ℕ, ◌/◌, ◌<◌, ◌≤◌, length, arith, refl, ap}
 use Rattle.ct_node.specs.Worlds.{Holds, page_at, edited, Cuts}
+use Rattle.ct_tree_laws.proofs.PostingZeros.{middle_low}
 use Rattle.ct_tree_laws.proofs.SplitTurns.{cut_enough, cuts_left, cut_is_tidy, cut_stepped, cut_keys}
 use Rattle.ct_tree.proofs.Done.{when_done, after_done}
 use Rattle.ct_tree.proofs.split.cut_left.Goals as goal
@@ -35,8 +36,11 @@ returns-clause-stepped g c =
     let w = g.N.Nodes.world c.args.nodes.now in
     let mid = g.N.Nodes.world c.edit-edited.new.self in
     let node = c.look-seen.new.into in
-    cut_stepped c.args.walk.now c.args.page c.args.right node c.cut.new.self w mid (g.N.Nodes.world c.free.new.self) c.requires
-    (when_done c.look-seen.result (λ _. page_at w c.args.page ≡ Holds node) (cc) c.look-seen.ensures.seen) c.cut.ensures.node
+    let enough : 2 ≤ length node.entries = omega arith in
+    cut_stepped c.args.walk.now c.args.page c.args.right node c.cut.new.self c.pair-low.result w mid (g.N.Nodes.world c.free.new.self) c.requires
+    (when_done c.look-seen.result (λ _. page_at w c.args.page ≡ Holds node) (cc) c.look-seen.ensures.seen)
+    (middle_low node (c.count-2.result / 2) c.pair-low.result c.count-2.ensures.node enough c.count-2.ensures.keys (ap (λ (n : ℕ). n / 2) c.count-2.ensures.count) c.pair-low.ensures)
+    c.cut.ensures.node
     (after_done c.edit-edited.result (λ _. edited c.args.walk.now.op c.args.page c.cut.new.self w) w mid (cc) (rw c.look-seen.ensures.world at c.edit-edited.ensures.world))
     c.free.ensures.world
 

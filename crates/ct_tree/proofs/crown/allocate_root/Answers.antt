@@ -1,0 +1,11 @@
+use Rattle.ct_tree_laws.specs.declared.walk.Stage.TheVariants as stage
+use Rattle.ct_tree_laws.specs.declared.rise.Rise.TheVariants as rise
+use Rattle.ct_tree_laws.proofs.PostingCrowns.{root_allocated}
+use Rattle.ct_tree_laws.proofs.PostingSplits.{above_allocated_keys}
+use Rattle.ct_tree.proofs.crown.allocate_root.Goals as goal
+
+pub returns-in-Done-clause-stepped : goal.returns-in-Done-clause-stepped
+returns-in-Done-clause-stepped g c = root_allocated c.args.walk.now c.args.separator c.in-Done.root (g.N.Nodes.world c.args.nodes.now) (g.N.Nodes.world c.fresh.new.self) c.requires c.in-Done.ensures.page c.in-Done.ensures.world
+
+pub returns-in-Done-clause-keys : goal.returns-in-Done-clause-keys
+returns-in-Done-clause-keys g c = above_allocated_keys c.args.walk.now (stage.Post c.args.separator rise.Grow) (g.N.Nodes.world c.args.nodes.now) (g.N.Nodes.world c.fresh.new.self) c.requires c.in-Done.ensures.world

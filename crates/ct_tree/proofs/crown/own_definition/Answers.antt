@@ -1,0 +1,24 @@
+use Rattle.std.proofs.Common.{true}
+use Rattle.std.specs.Prelude.{find}
+use Rattle.ct_latch.specs.Latches.{bars, with_hold}
+use Rattle.ct_node.specs.Worlds.{with_holds}
+use Rattle.ct_tree_laws.specs.declared.walk.Stage.TheVariants as stage
+use Rattle.ct_tree_laws.specs.declared.rise.Rise.TheVariants as rise
+use Rattle.ct_tree_laws.proofs.PostingTurns.{owned_keys}
+use Rattle.ct_tree_laws.proofs.PostingCrowns.{definition_owned}
+use Rattle.ct_tree.proofs.Done.{after_done, free_when_done}
+use Rattle.ct_tree.proofs.crown.own_definition.Goals as goal
+
+pub returns-clause-stepped : goal.returns-clause-stepped
+returns-clause-stepped g c =
+    let w = g.N.Nodes.world c.args.nodes.now in
+    let page = c.args.walk.now.at.page in
+    definition_owned c.args.walk.now c.args.separator w (g.N.Nodes.world c.own-owned.new.self) c.requires (free_when_done c.own-owned.result (find (bars page c.args.walk.now.op true) w.holds) (cc) c.own-owned.ensures.busy)
+    (after_done c.own-owned.result (λ _. with_holds (with_hold (record { node = page; op = c.args.walk.now.op; own = true }) w.holds) w) w (g.N.Nodes.world c.own-owned.new.self) (cc) c.own-owned.ensures.world)
+
+pub returns-clause-keys : goal.returns-clause-keys
+returns-clause-keys g c =
+    let w = g.N.Nodes.world c.args.nodes.now in
+    let page = c.args.walk.now.at.page in
+    owned_keys c.args.walk.now (stage.Post c.args.separator rise.Again) page w (g.N.Nodes.world c.own-owned.new.self) c.requires (free_when_done c.own-owned.result (find (bars page c.args.walk.now.op true) w.holds) (cc) c.own-owned.ensures.busy)
+    (after_done c.own-owned.result (λ _. with_holds (with_hold (record { node = page; op = c.args.walk.now.op; own = true }) w.holds) w) w (g.N.Nodes.world c.own-owned.new.self) (cc) c.own-owned.ensures.world)

@@ -1,0 +1,70 @@
+use Rattle.std.proofs.Common.{◌≡◌, nat_lt, length, refl, sym, ap, ◌∙◌, subst, true, false}
+use Rattle.ct_node.specs.Nodes.{capacity_of}
+use Rattle.ct_node.specs.Worlds.{edited, Posts}
+use Rattle.ct_tree_laws.specs.declared.walk.Stage.TheVariants as stage
+use Rattle.ct_tree_laws.specs.declared.rise.Rise.TheVariants as rise
+use Rattle.ct_tree_laws.specs.Stands.{Stepped, after_post}
+use Rattle.ct_tree_laws.proofs.Turns.{not_founded}
+use Rattle.ct_tree_laws.proofs.PostingTurns.{held_for, begins_inner, held_done, held_full, posts_child, posted_tidy, posted_stepped, posted_keys}
+use Rattle.ct_tree_laws.proofs.PostingCrowns.{named_freed_keys}
+use Rattle.ct_tree.proofs.Done.{after_done, is_above_for_from}
+use Rattle.ct_tree.proofs.post.post_within.Goals as goal
+
+pub bad-fault-requires : goal.bad-fault-requires
+bad-fault-requires g c =
+    let w = g.N.Nodes.world c.args.nodes.now in
+    not_founded w w refl (λ founded.
+    let here = c.requires.stands founded in
+    let facts = held_for c.args.walk.now c.args.separator c.args.page c.args.next c.args.node.now w c.requires.seen here in
+    let yes = is_above_for_from c.args.node.now c.args.separator.low facts.0 facts.1 (begins_inner w here.tree c.args.node.now facts.0 facts.2) in
+    cc)
+
+pub returns-then-has-clause-stepped : goal.returns-then-has-clause-stepped
+returns-then-has-clause-stepped g c =
+    let w = g.N.Nodes.world c.args.nodes.now in
+    let now = g.N.Nodes.world c.free.new.self in
+    subst (λ to. Stepped c.args.walk.now to w now) (sym c.after_post.ensures) (held_done c.args.walk.now c.args.separator c.args.page c.args.next w now c.requires.stands c.free.ensures.world)
+
+pub returns-then-has-clause-keys : goal.returns-then-has-clause-keys
+returns-then-has-clause-keys g c =
+    let w = g.N.Nodes.world c.args.nodes.now in
+    named_freed_keys c.args.walk.now (stage.Post c.args.separator (rise.Held c.args.page c.args.next)) c.args.page w w (g.N.Nodes.world c.free.new.self) c.requires.stands refl c.free.ensures.world
+
+pub returns-then-not-fits-clause-stepped : goal.returns-then-not-fits-clause-stepped
+returns-then-not-fits-clause-stepped g c =
+    let w = g.N.Nodes.world c.args.nodes.now in
+    let full : nat_lt (length c.args.node.now.entries) (capacity_of c.args.node.now.key_len c.args.node.now.leaf) ≡ false = cc in
+    held_full c.args.walk.now c.args.separator c.args.page c.args.next c.args.node.now w w c.requires.stands refl c.requires.seen c.requires.within full
+
+pub edit-edited-requires-clause-next : goal.edit-edited-requires-clause-next
+edit-edited-requires-clause-next g c =
+    let w = g.N.Nodes.world c.args.nodes.now in
+    λ founded. Posts refl (posts_child c.args.walk.now c.args.separator c.args.page c.args.next c.args.node.now c.post.new.self w c.requires.seen c.requires.within (cc) c.count-count.ensures.node c.post.ensures.node (c.requires.stands founded))
+
+pub free-requires-2 : goal.free-requires-2
+free-requires-2 g c =
+    let w = g.N.Nodes.world c.args.nodes.now in
+    let mid = g.N.Nodes.world c.edit-edited.new.self in
+    posted_tidy c.args.walk.now c.args.separator c.args.page c.args.next c.args.node.now c.post.new.self w mid c.requires.stands c.requires.seen
+    (after_done c.edit-edited.result (λ _. edited c.args.walk.now.op c.args.page c.post.new.self w) w mid (cc) c.edit-edited.ensures.world)
+
+pub returns-clause-stepped : goal.returns-clause-stepped
+returns-clause-stepped g c =
+    let w = g.N.Nodes.world c.args.nodes.now in
+    let mid = g.N.Nodes.world c.edit-edited.new.self in
+    let now = g.N.Nodes.world c.free-2.new.self in
+    subst (λ to. Stepped c.args.walk.now to w now) (sym c.after_post-2.ensures)
+    (posted_stepped c.args.walk.now c.args.separator c.args.page c.args.next c.args.node.now c.post.new.self w mid now c.requires.stands c.requires.seen
+    (λ here. posts_child c.args.walk.now c.args.separator c.args.page c.args.next c.args.node.now c.post.new.self w c.requires.seen c.requires.within (cc) c.count-count.ensures.node c.post.ensures.node here)
+    (after_done c.edit-edited.result (λ _. edited c.args.walk.now.op c.args.page c.post.new.self w) w mid (cc) c.edit-edited.ensures.world)
+    c.free-2.ensures.world)
+
+pub returns-clause-keys : goal.returns-clause-keys
+returns-clause-keys g c =
+    let w = g.N.Nodes.world c.args.nodes.now in
+    let mid = g.N.Nodes.world c.edit-edited.new.self in
+    let now = g.N.Nodes.world c.free-2.new.self in
+    posted_keys c.args.walk.now c.args.separator c.args.page c.args.next c.args.node.now c.post.new.self w mid now c.requires.stands c.requires.seen
+    (λ here. posts_child c.args.walk.now c.args.separator c.args.page c.args.next c.args.node.now c.post.new.self w c.requires.seen c.requires.within (cc) c.count-count.ensures.node c.post.ensures.node here)
+    (after_done c.edit-edited.result (λ _. edited c.args.walk.now.op c.args.page c.post.new.self w) w mid (cc) c.edit-edited.ensures.world)
+    c.free-2.ensures.world

@@ -1,0 +1,10 @@
+use Rattle.ct_tree_laws.specs.declared.walk.Stage.TheVariants as stage
+use Rattle.ct_tree_laws.specs.declared.rise.Rise.TheVariants as rise
+use Rattle.ct_tree_laws.proofs.PostingSplits.{above_allocated, above_allocated_keys}
+use Rattle.ct_tree.proofs.split_above.allocate_above.Goals as goal
+
+pub returns-in-Done-clause-stepped : goal.returns-in-Done-clause-stepped
+returns-in-Done-clause-stepped g c = above_allocated c.args.walk.now c.args.separator c.args.page c.in-Done.right (g.N.Nodes.world c.args.nodes.now) (g.N.Nodes.world c.fresh.new.self) c.requires c.in-Done.ensures.page c.in-Done.ensures.world
+
+pub returns-in-Done-clause-keys : goal.returns-in-Done-clause-keys
+returns-in-Done-clause-keys g c = above_allocated_keys c.args.walk.now (stage.Post c.args.separator (rise.Full c.args.page)) (g.N.Nodes.world c.args.nodes.now) (g.N.Nodes.world c.fresh.new.self) c.requires c.in-Done.ensures.world

@@ -1,0 +1,87 @@
+use Rattle.std.proofs.Common.{◌≡◌, ℕ, ◌+◌, ◌/◌, ◌<◌, ◌≤◌, length, arith, refl, ap}
+use Rattle.ct_node.specs.Worlds.{World, Holds, page_at, edited, Cuts}
+use Rattle.ct_tree_laws.proofs.PostingZeros.{middle_low}
+use Rattle.ct_tree_laws.proofs.PostingSplits.{cut_above_enough, cuts_above, cut_above_is_tidy, cut_above_left, cut_above_right, cut_above_keys}
+use Rattle.ct_tree.proofs.Done.{when_done, after_done}
+use Rattle.ct_tree.proofs.split_above.cut_above.Goals as goal
+
+pub bad-fault-requires : goal.bad-fault-requires
+bad-fault-requires g c =
+    let w = g.N.Nodes.world c.args.nodes.now in
+    let node = c.look-seen.new.into in
+    let few : length node.entries < 2 = omega arith in
+    cut_above_enough c.args.walk.now c.args.separator c.args.page c.args.right node w (g.N.Nodes.world c.look-seen.new.self) c.requires
+    (when_done c.look-seen.result (λ _. page_at w c.args.page ≡ Holds node) (cc) c.look-seen.ensures.seen) c.look-seen.ensures.world few
+
+pub edit-edited-requires-clause-mark : goal.edit-edited-requires-clause-mark
+edit-edited-requires-clause-mark g c = g.met.N.Nodes.allows_none c.look-seen.new.self c.args.walk.now.op
+
+pub edit-edited-requires-clause-next : goal.edit-edited-requires-clause-next
+edit-edited-requires-clause-next g c =
+    let w = g.N.Nodes.world c.args.nodes.now in
+    let node = c.look-seen.new.into in
+    rw c.look-seen.ensures.world (λ founded. Cuts refl (cuts_above c.args.walk.now c.args.separator c.args.page c.args.right node w (when_done c.look-seen.result (λ _. page_at w c.args.page ≡ Holds node) (cc) c.look-seen.ensures.seen) (c.requires founded) c.cut.new.self c.cut.ensures.node))
+
+pub free-requires : goal.free-requires
+free-requires g c =
+    let w = g.N.Nodes.world c.args.nodes.now in
+    let mid = g.N.Nodes.world c.edit-edited.new.self in
+    let node = c.look-seen.new.into in
+    cut_above_is_tidy c.args.walk.now c.args.separator c.args.page c.args.right node c.cut.new.self w mid c.requires
+    (when_done c.look-seen.result (λ _. page_at w c.args.page ≡ Holds node) (cc) c.look-seen.ensures.seen) c.cut.ensures.node
+    (after_done c.edit-edited.result (λ _. edited c.args.walk.now.op c.args.page c.cut.new.self w) w mid (cc) (rw c.look-seen.ensures.world at c.edit-edited.ensures.world))
+
+pub free-requires-2 : goal.free-requires-2
+free-requires-2 g c =
+    let w = g.N.Nodes.world c.args.nodes.now in
+    let mid = g.N.Nodes.world c.edit-edited.new.self in
+    let node = c.look-seen.new.into in
+    cut_above_is_tidy c.args.walk.now c.args.separator c.args.page c.args.right node c.cut.new.self w mid c.requires
+    (when_done c.look-seen.result (λ _. page_at w c.args.page ≡ Holds node) (cc) c.look-seen.ensures.seen) c.cut.ensures.node
+    (after_done c.edit-edited.result (λ _. edited c.args.walk.now.op c.args.page c.cut.new.self w) w mid (cc) (rw c.look-seen.ensures.world at c.edit-edited.ensures.world))
+
+pub returns-then-covers-clause-stepped : goal.returns-then-covers-clause-stepped
+returns-then-covers-clause-stepped g c =
+    let w = g.N.Nodes.world c.args.nodes.now in
+    let mid = g.N.Nodes.world c.edit-edited.new.self in
+    let node = c.look-seen.new.into in
+    let enough : 2 ≤ length node.entries = omega arith in
+    cut_above_left c.args.walk.now c.args.separator c.args.page c.args.right node c.cut.new.self c.pair-low.result w mid (g.N.Nodes.world c.free.new.self) c.requires
+    (when_done c.look-seen.result (λ _. page_at w c.args.page ≡ Holds node) (cc) c.look-seen.ensures.seen)
+    (middle_low node (c.count-2.result / 2) c.pair-low.result c.count-2.ensures.node enough c.count-2.ensures.keys (ap (λ (n : ℕ). n / 2) c.count-2.ensures.count) c.pair-low.ensures)
+    c.cut.ensures.node (cc)
+    (after_done c.edit-edited.result (λ _. edited c.args.walk.now.op c.args.page c.cut.new.self w) w mid (cc) (rw c.look-seen.ensures.world at c.edit-edited.ensures.world))
+    c.free.ensures.world
+
+pub returns-then-covers-clause-keys : goal.returns-then-covers-clause-keys
+returns-then-covers-clause-keys g c =
+    let w = g.N.Nodes.world c.args.nodes.now in
+    let mid = g.N.Nodes.world c.edit-edited.new.self in
+    let node = c.look-seen.new.into in
+    cut_above_keys c.args.walk.now c.args.separator c.args.page c.args.right c.args.right node c.cut.new.self w mid (g.N.Nodes.world c.free.new.self) c.requires
+    (when_done c.look-seen.result (λ _. page_at w c.args.page ≡ Holds node) (cc) c.look-seen.ensures.seen) c.cut.ensures.node
+    (after_done c.edit-edited.result (λ _. edited c.args.walk.now.op c.args.page c.cut.new.self w) w mid (cc) (rw c.look-seen.ensures.world at c.edit-edited.ensures.world))
+    c.free.ensures.world
+
+pub returns-clause-stepped : goal.returns-clause-stepped
+returns-clause-stepped g c =
+    let w = g.N.Nodes.world c.args.nodes.now in
+    let mid = g.N.Nodes.world c.edit-edited.new.self in
+    let node = c.look-seen.new.into in
+    let enough : 2 ≤ length node.entries = omega arith in
+    cut_above_right c.args.walk.now c.args.separator c.args.page c.args.right node c.cut.new.self c.pair-low.result w mid (g.N.Nodes.world c.free-2.new.self) c.requires
+    (when_done c.look-seen.result (λ _. page_at w c.args.page ≡ Holds node) (cc) c.look-seen.ensures.seen)
+    (middle_low node (c.count-2.result / 2) c.pair-low.result c.count-2.ensures.node enough c.count-2.ensures.keys (ap (λ (n : ℕ). n / 2) c.count-2.ensures.count) c.pair-low.ensures)
+    c.cut.ensures.node (cc)
+    (after_done c.edit-edited.result (λ _. edited c.args.walk.now.op c.args.page c.cut.new.self w) w mid (cc) (rw c.look-seen.ensures.world at c.edit-edited.ensures.world))
+    c.free-2.ensures.world
+
+pub returns-clause-keys : goal.returns-clause-keys
+returns-clause-keys g c =
+    let w = g.N.Nodes.world c.args.nodes.now in
+    let mid = g.N.Nodes.world c.edit-edited.new.self in
+    let node = c.look-seen.new.into in
+    cut_above_keys c.args.walk.now c.args.separator c.args.page c.args.right c.args.page node c.cut.new.self w mid (g.N.Nodes.world c.free-2.new.self) c.requires
+    (when_done c.look-seen.result (λ _. page_at w c.args.page ≡ Holds node) (cc) c.look-seen.ensures.seen) c.cut.ensures.node
+    (after_done c.edit-edited.result (λ _. edited c.args.walk.now.op c.args.page c.cut.new.self w) w mid (cc) (rw c.look-seen.ensures.world at c.edit-edited.ensures.world))
+    c.free-2.ensures.world

@@ -1,0 +1,278 @@
+//! A new root over the two halves of the old one: written while the definition page is the
+//! operation's own, and then named there.
+
+ghost use Rattle.std.specs.Prelude.{◌≡◌, ◌≤◌, ◌⊎◌, IsTrue, false, true, length, replicate};
+ghost use Rattle.ct_node.specs.Worlds.{no_mark};
+ghost use Rattle.ct_node.specs.Turns.{OnBusy, CausedTurn};
+ghost use Rattle.ct_tree_laws.specs.Stands.{Stands, Stepped, KeepsKeys, node_over};
+ghost use Rattle.ct_tree.specs.Answers.{is_done, IsInTheWay, IsPutting};
+
+use crate::descent::is_done;
+use ct_disk::Turn;
+use ct_key::KeyBuf;
+use ct_node::{Mark, Node, Nodes, Pair};
+use ct_tree_laws::{Rise, Separator, Stage, Walk};
+use std::alloc::Global;
+
+/// Makes the definition page the operation's own.
+pub(crate) fn own_definition<N: Nodes>(
+    walk: &Walk,
+    nodes: &mut N,
+    separator: Separator,
+) -> (Stage, Turn<()>)
+    requires { Stands walk.now (Stage.Post separator Rise.Again) (N.world nodes.old) }
+    ensures stepped { Stepped walk.now result.0 (N.world nodes.old) (N.world nodes.new) }
+    ensures keys { KeepsKeys (N.world nodes.old) (N.world nodes.new) }
+    ensures going { is_done result.1 ≡ false }
+    ensures putting { IsPutting result.0 }
+    ensures bears { N.marked nodes.new ≡ N.marked nodes.old }
+    ensures busy { OnBusy result.1 (IsInTheWay (N.flushes nodes.old) (N.world nodes.old) walk.now.op) }
+    ensures cause { CausedTurn result.1 (N.faults nodes.old) (N.faults nodes.new) (N.halted nodes.old) (N.halted nodes.new) }
+{
+    let owned = nodes.own(walk.op, walk.at.page);
+    if !is_done(&owned) {
+        return (
+            Stage::Post {
+                separator,
+                rise: Rise::Again,
+            },
+            owned,
+        );
+    }
+    (
+        Stage::Post {
+            separator,
+            rise: Rise::Named,
+        },
+        Turn::More,
+    )
+}
+
+/// Reads the root again. Where it is another one by now, the definition page is given back, and
+/// the separator posted to the level above the page that was split.
+pub(crate) fn name_again<N: Nodes>(
+    walk: &Walk,
+    nodes: &mut N,
+    separator: Separator,
+) -> (Stage, Turn<()>)
+    requires { Stands walk.now (Stage.Post separator Rise.Named) (N.world nodes.old) }
+    ensures stepped { Stepped walk.now result.0 (N.world nodes.old) (N.world nodes.new) }
+    ensures keys { KeepsKeys (N.world nodes.old) (N.world nodes.new) }
+    ensures going { is_done result.1 ≡ false }
+    ensures putting { IsPutting result.0 }
+    ensures bears { N.marked nodes.new ≡ N.marked nodes.old }
+    ensures busy { OnBusy result.1 (IsInTheWay (N.flushes nodes.old) (N.world nodes.old) walk.now.op) }
+    ensures cause { CausedTurn result.1 (N.faults nodes.old) (N.faults nodes.new) (N.halted nodes.old) (N.halted nodes.new) }
+{
+    match nodes.root(walk.op, walk.at) {
+        Turn::Done(page) => {
+            if page == separator.left {
+                return (
+                    Stage::Post {
+                        separator,
+                        rise: Rise::Grow,
+                    },
+                    Turn::More,
+                );
+            }
+            nodes.free(walk.op, walk.at.page);
+            return (
+                Stage::Post {
+                    separator,
+                    rise: Rise::Down { page, above: None },
+                },
+                Turn::More,
+            );
+        }
+        Turn::More => return (
+            Stage::Post {
+                separator,
+                rise: Rise::Named,
+            },
+            Turn::More,
+        ),
+        Turn::Busy { op } => return (
+            Stage::Post {
+                separator,
+                rise: Rise::Named,
+            },
+            Turn::Busy { op },
+        ),
+        Turn::Refused(fault) => return (
+            Stage::Post {
+                separator,
+                rise: Rise::Named,
+            },
+            Turn::Refused(fault),
+        ),
+    }
+}
+
+/// Allocates the page of the new root.
+pub(crate) fn allocate_root<N: Nodes>(
+    walk: &Walk,
+    nodes: &mut N,
+    separator: Separator,
+) -> (Stage, Turn<()>)
+    requires { Stands walk.now (Stage.Post separator Rise.Grow) (N.world nodes.old) }
+    ensures stepped { Stepped walk.now result.0 (N.world nodes.old) (N.world nodes.new) }
+    ensures keys { KeepsKeys (N.world nodes.old) (N.world nodes.new) }
+    ensures going { is_done result.1 ≡ false }
+    ensures putting { IsPutting result.0 }
+    ensures bears { N.marked nodes.new ≡ N.marked nodes.old }
+    ensures busy { OnBusy result.1 (IsInTheWay (N.flushes nodes.old) (N.world nodes.old) walk.now.op) }
+    ensures cause { CausedTurn result.1 (N.faults nodes.old) (N.faults nodes.new) (N.halted nodes.old) (N.halted nodes.new) }
+{
+    match nodes.fresh(walk.op) {
+        Turn::Done(root) => return (
+            Stage::Post {
+                separator,
+                rise: Rise::Crown { root },
+            },
+            Turn::More,
+        ),
+        Turn::More => return (
+            Stage::Post {
+                separator,
+                rise: Rise::Grow,
+            },
+            Turn::More,
+        ),
+        Turn::Busy { op } => return (
+            Stage::Post {
+                separator,
+                rise: Rise::Grow,
+            },
+            Turn::Busy { op },
+        ),
+        Turn::Refused(fault) => return (
+            Stage::Post {
+                separator,
+                rise: Rise::Grow,
+            },
+            Turn::Refused(fault),
+        ),
+    }
+}
+
+/// Writes the new root: its first entry leads to the old root, and its second to the page that was
+/// split off.
+pub(crate) fn write_root<N: Nodes>(
+    alloc: Global,
+    walk: &Walk,
+    nodes: &mut N,
+    separator: Separator,
+    root: u64,
+) -> (Stage, Turn<()>)
+    requires { Stands walk.now (Stage.Post separator (Rise.Crown root)) (N.world nodes.old) }
+    ensures stepped { Stepped walk.now result.0 (N.world nodes.old) (N.world nodes.new) }
+    ensures keys { KeepsKeys (N.world nodes.old) (N.world nodes.new) }
+    ensures going { is_done result.1 ≡ false }
+    ensures putting { IsPutting result.0 }
+    ensures bears { (N.marked nodes.new ≡ N.marked nodes.old) ⊎ (N.marked nodes.new ≡ no_mark) }
+    ensures busy { OnBusy result.1 (IsInTheWay (N.flushes nodes.old) (N.world nodes.old) walk.now.op) }
+    ensures cause { CausedTurn result.1 (N.faults nodes.old) (N.faults nodes.new) (N.halted nodes.old) (N.halted nodes.new) }
+{
+    let mut node = Node::new(0, 0, true, 1);
+    let seen = nodes.look(walk.op, separator.left, &mut node);
+    if !is_done(&seen) {
+        return (
+            Stage::Post {
+                separator,
+                rise: Rise::Crown { root },
+            },
+            seen,
+        );
+    }
+    if node.key_len() != separator.low.key.as_slice().len() {
+        let fault = nodes.bad(separator.left);
+        return (
+            Stage::Post {
+                separator,
+                rise: Rise::Crown { root },
+            },
+            Turn::Refused(fault),
+        );
+    }
+    let mut new = node_over(alloc, &node, separator.left);
+    if new.has(&separator.low) {
+        let fault = nodes.bad(separator.left);
+        return (
+            Stage::Post {
+                separator,
+                rise: Rise::Crown { root },
+            },
+            Turn::Refused(fault),
+        );
+    }
+    new.post(&separator.low, separator.child);
+    let _count = new.count();
+    let edited = nodes.edit(walk.op, root, &new, Mark::NONE);
+    if !is_done(&edited) {
+        return (
+            Stage::Post {
+                separator,
+                rise: Rise::Crown { root },
+            },
+            edited,
+        );
+    }
+    (
+        Stage::Post {
+            separator,
+            rise: Rise::Crowned { root },
+        },
+        Turn::More,
+    )
+}
+
+/// An inner node of the same index over one page, open to both sides.
+fn node_over(alloc: Global, node: &Node, page: u64) -> Node
+    ensures { result ≡ node_over node.now page }
+{
+    let _count = node.count();
+    let mut over = Node::new(node.file(), node.index(), false, node.key_len() as u16);
+    over.post(&zeros(alloc, node.key_len()), page);
+    over
+}
+
+/// The pair at which a node with an open low bound begins.
+fn zeros(alloc: Global, key_len: usize) -> Pair
+    requires { key_len ≤ 128 }
+    ensures { result ≡ record { key = replicate key_len 0; num = 0 } }
+{
+    match KeyBuf::from_slice(alloc, &[0; 128][..key_len]) {
+        Ok(key) => Pair { key, num: 0 },
+        Err(_refused) => unreachable!(),
+    }
+}
+
+/// Names the new root, and gives the definition page back.
+pub(crate) fn name_root<N: Nodes>(
+    walk: &Walk,
+    nodes: &mut N,
+    separator: Separator,
+    root: u64,
+) -> (Stage, Turn<()>)
+    requires { Stands walk.now (Stage.Post separator (Rise.Crowned root)) (N.world nodes.old) }
+    ensures stepped { Stepped walk.now result.0 (N.world nodes.old) (N.world nodes.new) }
+    ensures keys { KeepsKeys (N.world nodes.old) (N.world nodes.new) }
+    ensures going { is_done result.1 ≡ false }
+    ensures putting { IsPutting result.0 }
+    ensures bears { N.marked nodes.new ≡ N.marked nodes.old }
+    ensures busy { OnBusy result.1 (IsInTheWay (N.flushes nodes.old) (N.world nodes.old) walk.now.op) }
+    ensures cause { CausedTurn result.1 (N.faults nodes.old) (N.faults nodes.new) (N.halted nodes.old) (N.halted nodes.new) }
+{
+    let named = nodes.set_root(walk.op, walk.at, root);
+    if !is_done(&named) {
+        return (
+            Stage::Post {
+                separator,
+                rise: Rise::Crowned { root },
+            },
+            named,
+        );
+    }
+    nodes.free(walk.op, walk.at.page);
+    (Stage::Start, Turn::More)
+}

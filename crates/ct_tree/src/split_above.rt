@@ -1,0 +1,236 @@
+//! The split of a full inner node in three moves, before a separator is posted to one of its halves.
+
+ghost use Rattle.std.specs.Prelude.{◌≡◌, ◌⊎◌, IsTrue, false, true};
+ghost use Rattle.ct_node.specs.Worlds.{no_mark};
+ghost use Rattle.ct_node.specs.Turns.{OnBusy, CausedTurn};
+ghost use Rattle.ct_tree_laws.specs.Stands.{Stands, Stepped, KeepsKeys};
+ghost use Rattle.ct_tree.specs.Answers.{is_done, IsInTheWay, IsPutting};
+
+use crate::descent::is_done;
+use ct_disk::Turn;
+use ct_node::{Mark, Node, Nodes};
+use ct_tree_laws::{Rise, Separator, Stage, Walk};
+use std::alloc::Global;
+
+/// Allocates the page of the right half.
+pub(crate) fn allocate_above<N: Nodes>(
+    walk: &Walk,
+    nodes: &mut N,
+    separator: Separator,
+    page: u64,
+) -> (Stage, Turn<()>)
+    requires { Stands walk.now (Stage.Post separator (Rise.Full page)) (N.world nodes.old) }
+    ensures stepped { Stepped walk.now result.0 (N.world nodes.old) (N.world nodes.new) }
+    ensures keys { KeepsKeys (N.world nodes.old) (N.world nodes.new) }
+    ensures going { is_done result.1 ≡ false }
+    ensures putting { IsPutting result.0 }
+    ensures bears { N.marked nodes.new ≡ N.marked nodes.old }
+    ensures busy { OnBusy result.1 (IsInTheWay (N.flushes nodes.old) (N.world nodes.old) walk.now.op) }
+    ensures cause { CausedTurn result.1 (N.faults nodes.old) (N.faults nodes.new) (N.halted nodes.old) (N.halted nodes.new) }
+{
+    match nodes.fresh(walk.op) {
+        Turn::Done(right) => return (
+            Stage::Post {
+                separator,
+                rise: Rise::Fresh { page, right },
+            },
+            Turn::More,
+        ),
+        Turn::More => return (
+            Stage::Post {
+                separator,
+                rise: Rise::Full { page },
+            },
+            Turn::More,
+        ),
+        Turn::Busy { op } => return (
+            Stage::Post {
+                separator,
+                rise: Rise::Full { page },
+            },
+            Turn::Busy { op },
+        ),
+        Turn::Refused(fault) => {
+            return (
+                Stage::Post {
+                    separator,
+                    rise: Rise::Full { page },
+                },
+                Turn::Refused(fault),
+            );
+        }
+    }
+}
+
+/// Makes the page of the right half the operation's own too, which no other can reach: the half
+/// that the separator belongs to is to stay its own after the cut.
+pub(crate) fn own_right<N: Nodes>(
+    walk: &Walk,
+    nodes: &mut N,
+    separator: Separator,
+    page: u64,
+    right: u64,
+) -> (Stage, Turn<()>)
+    requires { Stands walk.now (Stage.Post separator (Rise.Fresh page right)) (N.world nodes.old) }
+    ensures stepped { Stepped walk.now result.0 (N.world nodes.old) (N.world nodes.new) }
+    ensures keys { KeepsKeys (N.world nodes.old) (N.world nodes.new) }
+    ensures going { is_done result.1 ≡ false }
+    ensures putting { IsPutting result.0 }
+    ensures bears { N.marked nodes.new ≡ N.marked nodes.old }
+    ensures busy { OnBusy result.1 (IsInTheWay (N.flushes nodes.old) (N.world nodes.old) walk.now.op) }
+    ensures cause { CausedTurn result.1 (N.faults nodes.old) (N.faults nodes.new) (N.halted nodes.old) (N.halted nodes.new) }
+{
+    let owned = nodes.own(walk.op, right);
+    if !is_done(&owned) {
+        return (
+            Stage::Post {
+                separator,
+                rise: Rise::Fresh { page, right },
+            },
+            owned,
+        );
+    }
+    (
+        Stage::Post {
+            separator,
+            rise: Rise::Split { page, right },
+        },
+        Turn::More,
+    )
+}
+
+/// Writes the right half.
+pub(crate) fn write_above<N: Nodes>(
+    walk: &Walk,
+    nodes: &mut N,
+    separator: Separator,
+    page: u64,
+    right: u64,
+) -> (Stage, Turn<()>)
+    requires { Stands walk.now (Stage.Post separator (Rise.Split page right)) (N.world nodes.old) }
+    ensures stepped { Stepped walk.now result.0 (N.world nodes.old) (N.world nodes.new) }
+    ensures keys { KeepsKeys (N.world nodes.old) (N.world nodes.new) }
+    ensures going { is_done result.1 ≡ false }
+    ensures putting { IsPutting result.0 }
+    ensures bears { (N.marked nodes.new ≡ N.marked nodes.old) ⊎ (N.marked nodes.new ≡ no_mark) }
+    ensures busy { OnBusy result.1 (IsInTheWay (N.flushes nodes.old) (N.world nodes.old) walk.now.op) }
+    ensures cause { CausedTurn result.1 (N.faults nodes.old) (N.faults nodes.new) (N.halted nodes.old) (N.halted nodes.new) }
+{
+    let mut node = Node::new(0, 0, true, 1);
+    let seen = nodes.look(walk.op, page, &mut node);
+    if !is_done(&seen) {
+        return (
+            Stage::Post {
+                separator,
+                rise: Rise::Split { page, right },
+            },
+            seen,
+        );
+    }
+    if node.count() < 2 {
+        let fault = nodes.bad(page);
+        return (
+            Stage::Post {
+                separator,
+                rise: Rise::Split { page, right },
+            },
+            Turn::Refused(fault),
+        );
+    }
+    let mut upper = Node::new(0, 0, true, 1);
+    node.upper_half(&mut upper);
+    let edited = nodes.edit(walk.op, right, &upper, Mark::NONE);
+    if !is_done(&edited) {
+        return (
+            Stage::Post {
+                separator,
+                rise: Rise::Split { page, right },
+            },
+            edited,
+        );
+    }
+    (
+        Stage::Post {
+            separator,
+            rise: Rise::Cut { page, right },
+        },
+        Turn::More,
+    )
+}
+
+/// Cuts the left node: its right link leads to the page that was written. The half that the
+/// separator belongs to is kept, and the other given back.
+pub(crate) fn cut_above<N: Nodes>(
+    alloc: Global,
+    walk: &Walk,
+    nodes: &mut N,
+    separator: Separator,
+    page: u64,
+    right: u64,
+) -> (Stage, Turn<()>)
+    requires { Stands walk.now (Stage.Post separator (Rise.Cut page right)) (N.world nodes.old) }
+    ensures stepped { Stepped walk.now result.0 (N.world nodes.old) (N.world nodes.new) }
+    ensures keys { KeepsKeys (N.world nodes.old) (N.world nodes.new) }
+    ensures going { is_done result.1 ≡ false }
+    ensures putting { IsPutting result.0 }
+    ensures bears { (N.marked nodes.new ≡ N.marked nodes.old) ⊎ (N.marked nodes.new ≡ no_mark) }
+    ensures busy { OnBusy result.1 (IsInTheWay (N.flushes nodes.old) (N.world nodes.old) walk.now.op) }
+    ensures cause { CausedTurn result.1 (N.faults nodes.old) (N.faults nodes.new) (N.halted nodes.old) (N.halted nodes.new) }
+{
+    let mut node = Node::new(0, 0, true, 1);
+    let seen = nodes.look(walk.op, page, &mut node);
+    if !is_done(&seen) {
+        return (
+            Stage::Post {
+                separator,
+                rise: Rise::Cut { page, right },
+            },
+            seen,
+        );
+    }
+    if node.count() < 2 {
+        let fault = nodes.bad(page);
+        return (
+            Stage::Post {
+                separator,
+                rise: Rise::Cut { page, right },
+            },
+            Turn::Refused(fault),
+        );
+    }
+    let low = node.pair(alloc, node.count() / 2);
+    node.cut(right);
+    let edited = nodes.edit(walk.op, page, &node, Mark::NONE);
+    if !is_done(&edited) {
+        return (
+            Stage::Post {
+                separator,
+                rise: Rise::Cut { page, right },
+            },
+            edited,
+        );
+    }
+    let next = Some(Separator {
+        low,
+        child: right,
+        left: page,
+    });
+    if node.covers(&separator.low) {
+        nodes.free(walk.op, right);
+        return (
+            Stage::Post {
+                separator,
+                rise: Rise::Held { page, next },
+            },
+            Turn::More,
+        );
+    }
+    nodes.free(walk.op, page);
+    (
+        Stage::Post {
+            separator,
+            rise: Rise::Held { page: right, next },
+        },
+        Turn::More,
+    )
+}

@@ -1,0 +1,57 @@
+-- A page posted to an inner node, and a new root written: links stay.
+use Rattle.std.proofs.Common.{◌≡◌, ℕ, Bool, true, false, cond, List, [], ◌∷◌, refl, sym, ap, ◌∙◌, subst, Some}
+use Rattle.std.specs.List.{All}
+use Rattle.std.proofs.lemmas.Bool.{cond-false}
+use Rattle.std.proofs.lemmas.List.Elements.{All-cons, All-head, All-tail}
+use Rattle.ct_definitions.specs.Pairs.{Pair}
+use Rattle.ct_node.specs.Nodes.{Entry, NodeValue, with_entry}
+use Rattle.ct_node.specs.Worlds.{World, is_fresh, edited, IsBelow, PostsChild, WritesRoot}
+use Rattle.ct_node.proofs.Orders.{below, not_above}
+use Rattle.ct_tree_laws.specs.Trees.{Tree, IsOf, IsAt, IsInner, IsInRole, IsApart}
+use Rattle.ct_tree_laws.proofs.Steps.{LeavesLinks}
+use Rattle.ct_tree_laws.proofs.Edits.{LeavesLinks-held, LeavesLinks-written, IsAlike-entries}
+
+All-with_entry : (P : Entry → Type 0) (new : Entry) (entries : List Entry) → P new → All P entries → All P (with_entry new entries)
+All-with_entry P new [] here all = All-cons P new [] here all
+All-with_entry P new (entry ∷ entries) here all = by_test (below new.pair entry.pair) (All-with_entry P new entries here (All-tail P entry entries all))
+  where
+    by_test : (test : Bool) → All P (with_entry new entries) → All P (cond test (new ∷ entry ∷ entries) (entry ∷ with_entry new entries))
+    by_test true rest = All-cons P new (entry ∷ entries) here all
+    by_test false rest = All-cons P entry (with_entry new entries) (All-head P entry entries all) rest
+
+-- a node that links reach, and that begins at a pair
+pub below_at : (w : World) (t : Tree) (child : ℕ) (low : Pair) (node other : NodeValue) → IsBelow child low node other w → IsOf t node → node.key_len ≡ t.key_len → IsAt w t other.leaf (Some low) child
+below_at w t child low node other there of key_len = record {
+  node = other;
+  is = there.is;
+  of = record { file = there.file ∙ of.file; index = there.index ∙ of.index };
+  key_len = there.key_len ∙ key_len;
+  kind = refl;
+  from = there.from;
+  linked = there.linked;
+}
+
+-- an inner node leads down as before, and to one page more
+posted_inner : (op page : ℕ) (new : NodeValue) (w : World) (t : Tree) (posts : PostsChild op page new w) → IsOf t posts.node → IsInRole w t posts.node → IsInner w t new
+posted_inner op page new w t posts of role =
+    let node = posts.node in
+    let inner = role.inner posts.inner in
+    let entry : Entry = record { pair = posts.low; child = posts.child } in
+    let one : posts.first ≡ inner.first = (let both : posts.first ∷ posts.rest ≡ inner.first ∷ inner.rest = sym posts.entries ∙ inner.is in cc) in
+    let after : below posts.low inner.first.pair ≡ false = not_above inner.first.pair posts.low (subst (λ (e : Entry). below e.pair posts.low ≡ true) one posts.above) in
+    let P : Entry → Type 0 = λ e. (leaf : Bool) × IsAt w t leaf (Some e.pair) e.child in
+    subst (IsInner w t) (sym posts.made) (record {
+      first = inner.first;
+      rest = with_entry entry inner.rest;
+      is = ap (with_entry entry) inner.is ∙ cond-false (below posts.low inner.first.pair) (entry ∷ inner.first ∷ inner.rest) (inner.first ∷ with_entry entry inner.rest) after;
+      begins = inner.begins;
+      least = inner.least;
+      others = All-with_entry (λ (e : Entry). (leaf : Bool) × IsAt w t leaf (Some e.pair) e.child) entry inner.rest (posts.below.leaf, below_at w t posts.child posts.low node posts.below posts.there of role.key_len) inner.others;
+    })
+
+pub LeavesLinks-posts : (op page : ℕ) (new : NodeValue) (w : World) → IsApart w → PostsChild op page new w → LeavesLinks op w (edited op page new w)
+LeavesLinks-posts op page new w apart posts =
+    LeavesLinks-held op page posts.node new w apart posts.held (IsAlike-entries posts.node new (with_entry (record { pair = posts.low; child = posts.child }) posts.node.entries) posts.sound posts.made) (λ inner t of role. posted_inner op page new w t posts of role)
+
+pub LeavesLinks-crowns : (op page : ℕ) (new : NodeValue) (w : World) → IsApart w → WritesRoot op page new w → LeavesLinks op w (edited op page new w)
+LeavesLinks-crowns op page new w apart writes = LeavesLinks-written op page new w apart writes.blank writes.mine (ap (λ p. is_fresh p w) writes.right ∙ apart.zero)
