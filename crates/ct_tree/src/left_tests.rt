@@ -13,10 +13,10 @@ use ct_key::KeyBuf;
 use ct_node::{Mark, MemNodes, Node, Pair, Root, Target};
 use std::alloc::Global;
 
-const INDEX: Root = Root { page: 0, index: 0 };
+pub(crate) const INDEX: Root = Root { page: 0, index: 0 };
 
 /// The pages of a new index, for keys of this length.
-fn pages(alloc: Global, key_len: u16) -> Result<MemNodes, NoMemory>
+pub(crate) fn pages(alloc: Global, key_len: u16) -> Result<MemNodes, NoMemory>
     requires some_key { 1 ≤ key_len }
     requires short_key { key_len ≤ 128 }
     ensures { IfOk result (λ nodes. (world_of nodes).founded ≡ false) }
@@ -27,7 +27,12 @@ fn pages(alloc: Global, key_len: u16) -> Result<MemNodes, NoMemory>
 }
 
 /// A target of this record, whose key begins with this number.
-fn target_of(alloc: Global, number: u32, key_len: usize, num: u64) -> Result<Target, NoMemory>
+pub(crate) fn target_of(
+    alloc: Global,
+    number: u32,
+    key_len: usize,
+    num: u64,
+) -> Result<Target, NoMemory>
     requires { key_len ≤ 128 }
     ensures { IfOk result IsPair }
 {
@@ -38,7 +43,7 @@ fn target_of(alloc: Global, number: u32, key_len: usize, num: u64) -> Result<Tar
 }
 
 /// The number with which a pair's key begins.
-fn number_of(pair: &Pair) -> u32 {
+pub(crate) fn number_of(pair: &Pair) -> u32 {
     let key = pair.key.as_slice();
     if key.len() < 4 {
         return 0;
@@ -61,7 +66,7 @@ fn run_to_end(program: &mut Program, nodes: &mut MemNodes) -> bool
 }
 
 /// Puts a pair; whether that ended.
-fn put(alloc: Global, nodes: &mut MemNodes, op: u64, target: Target) -> bool
+pub(crate) fn put(alloc: Global, nodes: &mut MemNodes, op: u64, target: Target) -> bool
     requires pair { IsPair target }
     requires damaged { (world_of nodes.old).founded ≡ false }
     ensures damaged { (world_of nodes.new).founded ≡ false }
@@ -96,7 +101,12 @@ fn turns_of(search: &mut Search, nodes: &mut MemNodes, turns: usize) -> Option<O
 }
 
 /// What a search finds that is alone.
-fn find(alloc: Global, nodes: &mut MemNodes, target: Target, seek: Seek) -> Option<Option<Pair>>
+pub(crate) fn find(
+    alloc: Global,
+    nodes: &mut MemNodes,
+    target: Target,
+    seek: Seek,
+) -> Option<Option<Pair>>
     requires damaged { (world_of nodes.old).founded ≡ false }
     ensures damaged { (world_of nodes.new).founded ≡ false }
 {

@@ -17,6 +17,8 @@ mod search;
 mod seek;
 mod split;
 mod split_above;
+#[cfg(test)]
+mod stop_tests;
 mod take;
 #[cfg(test)]
 mod tests;
