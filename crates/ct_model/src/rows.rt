@@ -1,7 +1,7 @@
 //! The records of a file, whose numbers rise: finding them by number and by block, and putting one
 //! in, exchanging and taking out. Each is found by halves, and each edit is one of the definitions.
 
-ghost use Rattle.std.specs.Prelude.{◌≡◌, ◌==◌, ◌≤◌, length, nat_lt, nat_le, filter, slice_get, true, None, OnOk, OnErr};
+ghost use Rattle.std.specs.Prelude.{◌≡◌, ◌==◌, ◌≤◌, length, nat_lt, nat_le, filter, slice_get, true, Some, None, IfOk, OnOk, OnErr};
 ghost use Rattle.std.specs.Option.{option_copied, is_some};
 ghost use Rattle.std.specs.List.{prefix_len};
 ghost use Rattle.ct_definitions.specs.Room.{row_at, image_at, is_image, block_of};
@@ -152,15 +152,17 @@ fn stands_at(place: usize, num: u64, rows: &[Row]) -> bool
     }
 }
 
-/// Puts a record of a number that none has at its place.
-pub(crate) fn put_row(rows: &mut Rows, row: Row) -> Result<(), NoMemory>
+/// Puts a record of a number that none has at its place, which it answers.
+pub(crate) fn put_row(rows: &mut Rows, row: Row) -> Result<usize, NoMemory>
     requires rising { rise_above 0 rows.old ≡ true }
     requires free { row_at row.num rows.old ≡ None }
     ensures ok { OnOk result (rows.new ≡ with_row row rows.old) }
+    ensures place { IfOk result (λ place. slice_get rows.new place ≡ Some row) }
     ensures err { OnErr result (rows.new ≡ rows.old) }
 {
     let place = place_of(row.num, rows.as_slice());
-    rows.insert(place, row)
+    rows.insert(place, row)?;
+    Ok(place)
 }
 
 /// Gives the record of the number another image.
