@@ -1,6 +1,7 @@
 -- What is kept beside a file stays right through each change of its records.
-use Rattle.std.proofs.Common.{◌≡◌, ℕ, ◌≤◌, ◌^◌, min, Bool, true, ◌&&◌, nat_le, List, [], ◌∷◌, ◌++◌, take, length, None, ◌∙◌, arith, option_map, subst, Option, Some, ap, sym, refl}
+use Rattle.std.proofs.Common.{◌≡◌, ℕ, ◌≤◌, ◌^◌, min, Bool, true, ◌&&◌, nat_le, List, [], ◌∷◌, ◌++◌, take, length, get_or, slice_get, None, ◌∙◌, arith, option_map, subst, Option, Some, ap, sym, refl}
 use Rattle.std.specs.List.{list_all}
+use Rattle.std.proofs.lemmas.Option.{get_or_from_slice_get}
 use Rattle.ct_definitions.specs.declared.store.Row.{Row}
 use Rattle.ct_definitions.specs.declared.store.File.{File}
 use Rattle.ct_definitions.specs.Validity.{is_valid, least_len}
@@ -147,6 +148,11 @@ exchange_read indexes own num old bytes image pairs each after i b e is =
     is ∙ ap (λ (xs : List IndexDef). exchanged_pairs xs num old bytes pairs) i
     ∙ ap (λ (ys : List ℕ). exchanged_pairs own num old ys pairs) b
     ∙ ap (exchanged_pairs own num old image) e
+
+-- what was put in among the records is read again
+pub image_put : (rows read : List Row) (place : ℕ) (row there : Row) (bytes : List ℕ) → slice_get rows place ≡ Some row → read ≡ rows → there ≡ get_or read place there → bytes ≡ there.image → bytes ≡ row.image
+image_put rows read place row there bytes put same is own =
+    own ∙ ap (λ (r : Row). r.image) (is ∙ ap (λ (rs : List Row). get_or rs place there) same ∙ get_or_from_slice_get rows place row there put)
 
 -- the front of joined lists
 pub take_front : {X : Type 0} (xs ys : List X) (n : ℕ) → length xs ≡ n → take n (xs ++ ys) ≡ xs

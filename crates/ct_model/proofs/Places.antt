@@ -1,10 +1,12 @@
 -- Where the record of a number stands among records whose numbers rise, and where those of a block do.
-use Rattle.std.proofs.Common.{◌≡◌, ◌≢◌, ℕ, zero, suc, ◌+◌, ◌-◌, ◌<◌, ◌≤◌, Bool, true, false, cond, ◌==◌, nat_lt, nat_le, List, [], ◌∷◌, length, take, drop, get_or, slice_get, insert, remove, slice_set, filter, is_some, Option, Some, None, refl, ap, sym, ◌∙◌, arith}
+use Rattle.std.proofs.Common.{◌≡◌, ◌≢◌, ℕ, zero, suc, ◌+◌, ◌-◌, ◌<◌, ◌≤◌, Bool, true, false, cond, ◌==◌, nat_lt, nat_le, List, [], ◌∷◌, length, take, drop, min, get_or, slice_get, insert, remove, slice_set, filter, is_some, Option, Some, None, refl, ap, sym, ◌∙◌, arith}
 use Rattle.std.proofs.Math.Nat.{sub-zero}
 use Rattle.std.specs.List.{prefix_len}
 use Rattle.std.specs.List.Sorted.{IsNonDecreasingBy, IsPartitionPoint}
 use Rattle.std.proofs.lemmas.Bool.Decides.{nat_tests}
-use Rattle.std.proofs.lemmas.List.{length-take}
+use Rattle.std.proofs.lemmas.Option.{slice_get_within}
+use Rattle.std.proofs.lemmas.List.{length-take, length-drop}
+use Rattle.std.proofs.lemmas.List.Sums.{prefix_len-le-length, prefix_len_passes, prefix_len_stops}
 use Rattle.ct_definitions.specs.declared.store.Row.{Row}
 use Rattle.ct_definitions.specs.Room.{row_at, block_of}
 use Rattle.ct_definitions.specs.Changes.{with_row, with_image, without_row}
@@ -65,6 +67,23 @@ last_decides key p rows last rise is below = all_pass p rows each
         let top : key (get_or rows (length rows - 1) d) ≡ key last = ap key (got rows (length rows - 1) last d is) in
         below (get_or rows i d) (omega arith)
 
+-- the last tells whether each passes, where with it all do that are no greater
+pub last_tells : (key : Row → ℕ) (p : Row → Bool) (rows : List Row) (last : Row) → IsNonDecreasingBy key rows → Some last ≡ slice_get rows (length rows - 1) → (p last ≡ true → (row : Row) → key row ≤ key last → p row ≡ true) → p last ≡ (prefix_len p rows == length rows)
+last_tells key p rows last rise is below = by_last (p last) refl
+  where
+    by_whole : p last ≡ false → (whole : Bool) → (prefix_len p rows == length rows) ≡ whole → false ≡ whole
+    by_whole fails false test = refl
+    by_whole fails true test =
+        let same : prefix_len p rows ≡ length rows = grind (arith, nat_tests) in
+        let some : length rows - 1 < length rows = slice_get_within rows (length rows - 1) last (sym is) in
+        let passes : p (get_or rows (length rows - 1) last) ≡ true = prefix_len_passes p rows (length rows - 1) last (omega arith) in
+        let own : p (get_or rows (length rows - 1) last) ≡ p last = ap p (got rows (length rows - 1) last last is) in
+        absurd (cc)
+
+    by_last : (passes : Bool) → p last ≡ passes → passes ≡ (prefix_len p rows == length rows)
+    by_last true passes = let whole : prefix_len p rows ≡ length rows = last_decides key p rows last rise is (below passes) in grind (arith, nat_tests)
+    by_last false fails = by_whole fails (prefix_len p rows == length rows) refl
+
 -- ---- the record of a number
 
 -- how many records have lower numbers
@@ -106,6 +125,13 @@ insert_place new (row ∷ rows) free = at_of (λ none. insert_place new rows non
         let rest : row_at new.num rows ≡ None = grind (arith, nat_tests) in
         rw (same, above) (ap (λ xs. row ∷ xs) (placed rest))
     at_of placed false is = let above : nat_lt new.num row.num ≡ true = grind (arith, nat_tests) in rw above refl
+
+-- and stands there
+pub read_put : {X : Type 0} (xs : List X) (i : ℕ) (y : X) → i ≤ length xs → slice_get (insert xs i y) i ≡ Some y
+read_put [] zero y there = refl
+read_put [] (suc i) y there = absurd (omega arith)
+read_put (x ∷ xs) zero y there = refl
+read_put (x ∷ xs) (suc i) y there = read_put xs i y (omega arith)
 
 -- what was read at the place is the record
 pub read_own : (num : ℕ) (rows : List Row) (place' : ℕ) (row : Row) → rise_above 0 rows ≡ true → place' ≡ place num rows → Some row ≡ slice_get rows place' → row.num ≡ num → Some row ≡ row_at num rows
@@ -238,40 +264,42 @@ block_part last block (row ∷ rows) rise = part_of (block_part row.num block ro
         let above : block < block_of row.num = grind (arith, nat_tests) in
         rw other (sym (none_behind row.num block rows after above))
 
--- a record of a lower block stands before a block's records
-starts_behind : (last block j : ℕ) (rows : List Row) (row : Row) → rise_above last rows ≡ true → Some row ≡ slice_get rows j → block_of row.num < block → j < starts block rows
-starts_behind last block j [] row rise read low = cc
-starts_behind last block zero (first ∷ rows) row rise read low =
-    let same : row ≡ first = cc in
-    let below : block_of first.num < block = rw same at low in
-    grind (arith, nat_tests)
-starts_behind last block (suc j) (first ∷ rows) row rise read low =
-    let after : rise_above first.num rows ≡ true = grind arith in
-    let rest : j < starts block rows = starts_behind first.num block j rows row after read low in
-    let within : j < length rows = read_within rows j row read in
-    let above : first.num < (get_or rows j row).num = num_above first.num rows j row after within in
-    let same : (get_or rows j row).num ≡ row.num = ap (λ (r : Row). r.num) (got rows j row row read) in
-    let below : block_of first.num < block = omega arith in
-    grind (arith, nat_tests)
+-- exactly the records of lower blocks stand before a block's records
+lower_first : (block j : ℕ) (rows : List Row) (d : Row) → rise_above 0 rows ≡ true → j < length rows → nat_lt (block_of (get_or rows j d).num) block ≡ nat_lt j (starts block rows)
+lower_first block j rows d rise there = by_place (nat_lt j (starts block rows)) refl
   where
-    read_within : (rows : List Row) (j : ℕ) (row : Row) → Some row ≡ slice_get rows j → j < length rows
-    read_within [] j row read = cc
-    read_within (r ∷ rows) zero row read = omega arith
-    read_within (r ∷ rows) (suc j) row read = let rest : j < length rows = read_within rows j row read in omega arith
+    by_place : (before : Bool) → nat_lt j (starts block rows) ≡ before → nat_lt (block_of (get_or rows j d).num) block ≡ before
+    by_place true is = prefix_len_passes (λ (row : Row). nat_lt (block_of row.num) block) rows j d (grind (arith, nat_tests))
+    by_place false is =
+        let behind : starts block rows ≤ j = grind (arith, nat_tests) in
+        let stops : nat_lt (block_of (get_or rows (starts block rows) d).num) block ≡ false = prefix_len_stops (λ (row : Row). nat_lt (block_of row.num) block) rows d (omega arith) in
+        let up : block_of (get_or rows (starts block rows) d).num ≤ block_of (get_or rows j d).num = blocks_rise rows rise (starts block rows) j d behind there in
+        grind (arith, nat_tests)
 
--- a block has at most as many records as stand between
-part_short : (block : ℕ) (rows : List Row) → rise_above 0 rows ≡ true → length (filter (λ row. block_of row.num == block) rows) ≤ ends block rows - starts block rows
-part_short block rows rise =
+-- a block has as many records as stand between
+part_length : (block : ℕ) (rows : List Row) → rise_above 0 rows ≡ true → length (filter (λ row. block_of row.num == block) rows) ≡ ends block rows - starts block rows
+part_length block rows rise =
     let n = ends block rows - starts block rows in
     let part : length (take n (drop (starts block rows) rows)) ≡ length (filter (λ row. block_of row.num == block) rows) = ap length (block_part 0 block rows rise) in
-    let short : length (take n (drop (starts block rows) rows)) ≤ n = omega (arith, length-take n (drop (starts block rows) rows)) in
+    let most : ends block rows ≤ length rows = prefix_len-le-length (λ (row : Row). nat_le (block_of row.num) block) rows in
+    let all : length (take n (drop (starts block rows) rows)) ≡ min n (length rows - starts block rows) = length-take n (drop (starts block rows) rows) ∙ ap (min n) (length-drop (starts block rows) rows) in
     omega arith
 
-pub few_before : (block end most : ℕ) (rows : List Row) → rise_above 0 rows ≡ true → end ≡ ends block rows → end ≤ most → length (filter (λ row. block_of row.num == block) rows) ≤ most
-few_before block end most rows rise is few = let part : length (filter (λ row. block_of row.num == block) rows) ≤ ends block rows - starts block rows = part_short block rows rise in omega arith
+-- what stands before the place at which the last ones begin
+few_between : (start end most : ℕ) → start ≤ end → most < end → nat_lt (end - most - 1) start ≡ nat_le (end - start) most
+few_between start end most order more = by_test (nat_le (end - start) most) refl
+  where
+    by_test : (few : Bool) → nat_le (end - start) most ≡ few → nat_lt (end - most - 1) start ≡ few
+    by_test true is = grind (arith, nat_tests)
+    by_test false is = grind (arith, nat_tests)
 
-pub few_behind : (block end most : ℕ) (rows : List Row) (row : Row) → rise_above 0 rows ≡ true → end ≡ ends block rows → most < end → Some row ≡ slice_get rows (end - most - 1) → block_of row.num < block → length (filter (λ row. block_of row.num == block) rows) ≤ most
-few_behind block end most rows row rise is more read low =
-    let part : length (filter (λ row. block_of row.num == block) rows) ≤ ends block rows - starts block rows = part_short block rows rise in
-    let behind : end - most - 1 < starts block rows = starts_behind 0 block (end - most - 1) rows row rise read low in
-    omega arith
+pub few_before : (block end most : ℕ) (rows : List Row) → rise_above 0 rows ≡ true → end ≡ ends block rows → end ≤ most → true ≡ nat_le (length (filter (λ row. block_of row.num == block) rows)) most
+few_before block end most rows rise is few = let part = part_length block rows rise in grind (arith, nat_tests)
+
+-- whether a block has few records is told by the record that stands before so many up to its end
+pub few_tells : (block end most : ℕ) (rows : List Row) (d : Row) → rise_above 0 rows ≡ true → end ≡ ends block rows → most < end → nat_lt (block_of (get_or rows (end - most - 1) d).num) block ≡ nat_le (length (filter (λ row. block_of row.num == block) rows)) most
+few_tells block end most rows d rise is more =
+    let all : ends block rows ≤ length rows = prefix_len-le-length (λ (row : Row). nat_le (block_of row.num) block) rows in
+    lower_first block (end - most - 1) rows d rise (omega arith)
+    ∙ few_between (starts block rows) end most (omega (arith, starts_first block rows)) more
+    ∙ ap (λ (n : ℕ). nat_le n most) (ap (λ (n : ℕ). n - starts block rows) is ∙ sym (part_length block rows rise))

@@ -114,67 +114,66 @@ pub fn allows(state: &State, change: &Change) -> bool
     }
 }
 
-fn make(alloc: Global, state: &mut State, file: u16, def: &FileDef) -> Result<(), NoMemory>
-    requires { allows state.old (Change.Make file def.now) ≡ true }
-    ensures ok { OnOk result (state.new ≡ changed state.old (Change.Make file def.now)) }
+fn make(alloc: Global, state: &mut State, file: u16, def: FileDef) -> Result<(), NoMemory>
+    requires { allows state.old (Change.Make file def) ≡ true }
+    ensures ok { OnOk result (state.new ≡ changed state.old (Change.Make file def)) }
     ensures err { OnErr result (state.new ≡ state.old) }
 {
-    let def = def.clone()?;
     state.push_file(alloc, def)
 }
 
-fn add(state: &mut State, file: u16, num: u64, new: &Bytes) -> Result<(), NoMemory>
-    requires { allows state.old (Change.Add file num new.now) ≡ true }
-    ensures ok { OnOk result (state.new ≡ changed state.old (Change.Add file num new.now)) }
+fn add(state: &mut State, file: u16, num: u64, new: Bytes) -> Result<(), NoMemory>
+    requires { allows state.old (Change.Add file num new) ≡ true }
+    ensures ok { OnOk result (state.new ≡ changed state.old (Change.Add file num new)) }
     ensures err { OnErr result (state.new ≡ state.old) }
 {
     state.add_row(file, num, new)
 }
 
-fn rewrite(state: &mut State, file: u16, num: u64, old: &Bytes, new: &Bytes) -> Result<(), NoMemory>
-    requires { allows state.old (Change.Rewrite file num old.now new.now) ≡ true }
-    ensures ok { OnOk result (state.new ≡ changed state.old (Change.Rewrite file num old.now new.now)) }
+fn rewrite(state: &mut State, file: u16, num: u64, old: Bytes, new: Bytes) -> Result<(), NoMemory>
+    requires { allows state.old (Change.Rewrite file num old new) ≡ true }
+    ensures ok { OnOk result (state.new ≡ changed state.old (Change.Rewrite file num old new)) }
     ensures err { OnErr result (state.new ≡ state.old) }
 {
     state.rewrite_row(file, num, new)
 }
 
 // makes a change that is defined
-fn perform(alloc: Global, state: &mut State, change: &Change) -> Result<(), NoMemory>
-    requires { allows state.old change.now ≡ true }
-    ensures ok { OnOk result (state.new ≡ changed state.old change.now) }
+fn perform(alloc: Global, state: &mut State, change: Change) -> Result<(), NoMemory>
+    requires { allows state.old change ≡ true }
+    ensures ok { OnOk result (state.new ≡ changed state.old change) }
     ensures err { OnErr result (state.new ≡ state.old) }
 {
     match change {
-        Change::Make { file, def } => make(alloc, state, *file, def),
-        Change::Add { file, num, new } => add(state, *file, *num, new),
+        Change::Make { file, def } => make(alloc, state, file, def),
+        Change::Add { file, num, new } => add(state, file, num, new),
         Change::Rewrite {
             file,
             num,
             old,
             new,
-        } => rewrite(state, *file, *num, old, new),
+        } => rewrite(state, file, num, old, new),
         Change::Delete { file, num, .. } => {
-            state.delete_row(*file, *num);
+            state.delete_row(file, num);
             Ok(())
         }
     }
 }
 
-/// Makes the change, where it is defined on the state.
+/// Makes the change, where it is defined on the state. Its new image or definition moves into the state.
 ///
 /// # Errors
 ///
 /// `NotDefined` where it is not, and `Memory` where there is too little. Both leave the state as it
 /// was: all memory is taken before anything changes.
-pub fn apply(alloc: Global, state: &mut State, change: &Change) -> Result<(), Refused>
-    ensures ok { OnOk result (state.new ≡ changed state.old change.now) }
-    ensures allowed { OnOk result (allows state.old change.now ≡ true) }
-    ensures refused { IsErrOf result Refused.NotDefined → allows state.old change.now ≡ false }
-    ensures memory { IsErrOf result Refused.Memory → allows state.old change.now ≡ true }
+pub fn apply(alloc: Global, state: &mut State, change: Change) -> Result<(), Refused>
+    ensures ok { OnOk result (state.new ≡ changed state.old change) }
+    ensures allowed { OnOk result (allows state.old change ≡ true) }
+    ensures refused { IsErrOf result Refused.NotDefined → allows state.old change ≡ false }
+    ensures memory { IsErrOf result Refused.Memory → allows state.old change ≡ true }
     ensures err { OnErr result (state.new ≡ state.old) }
 {
-    if !allows(state, change) {
+    if !allows(state, &change) {
         return Err(Refused::NotDefined);
     }
     perform(alloc, state, change)?;

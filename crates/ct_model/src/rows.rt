@@ -1,7 +1,7 @@
 //! The records of a file, whose numbers rise: finding them by number and by block, and putting one
 //! in, exchanging and taking out. Each is found by halves, and each edit is one of the definitions.
 
-ghost use Rattle.std.specs.Prelude.{◌≡◌, ◌==◌, ◌≤◌, length, nat_lt, nat_le, filter, slice_get, true, None, IsTrue, OnOk, OnErr};
+ghost use Rattle.std.specs.Prelude.{◌≡◌, ◌==◌, ◌≤◌, length, nat_lt, nat_le, filter, slice_get, true, Some, None, IfOk, OnOk, OnErr};
 ghost use Rattle.std.specs.Option.{option_copied, is_some};
 ghost use Rattle.std.specs.List.{prefix_len};
 ghost use Rattle.ct_definitions.specs.Room.{row_at, image_at, is_image, block_of};
@@ -12,14 +12,14 @@ ghost use Rattle.ct_model.specs.Stored.{own};
 use ct_definitions::{Bytes, RECORDS_PER_BLOCK, Row, Rows};
 use ct_items::NoMemory;
 
-// whether the last record has a lower number, and with it each, as where a record is added behind it
+// whether each record has a lower number, which the last one tells
 fn are_below(num: u64, rows: &[Row]) -> bool
     requires { rise_above 0 rows.now ≡ true }
-    ensures { IsTrue result → prefix_len (λ row. nat_lt row.num num) rows.now ≡ length rows.now }
+    ensures { result ≡ (prefix_len (λ row. nat_lt row.num num) rows.now == length rows.now) }
 {
     match rows.last() {
         Some(last) => last.num < num,
-        None => false,
+        None => true,
     }
 }
 
@@ -92,14 +92,14 @@ fn start_of(block: u64, rows: &[Row]) -> usize
     )
 }
 
-// whether the last record stands in the block or a lower one, and with it each
+// whether each record stands in the block or a lower one, which the last one tells
 fn are_up_to(block: u64, rows: &[Row]) -> bool
     requires { rise_above 0 rows.now ≡ true }
-    ensures { IsTrue result → prefix_len (λ row. nat_le (block_of row.num) block) rows.now ≡ length rows.now }
+    ensures { result ≡ (prefix_len (λ row. nat_le (block_of row.num) block) rows.now == length rows.now) }
 {
     match rows.last() {
         Some(last) => last.num / RECORDS_PER_BLOCK <= block,
-        None => false,
+        None => true,
     }
 }
 
@@ -130,19 +130,16 @@ pub(crate) fn rows_in(block: u64, rows: &[Row]) -> &[Row]
     &rows[start..end]
 }
 
-/// Whether it is seen at once that the block has at most `most` records.
+/// Whether the block has at most `most` records, which one of them tells.
 pub(crate) fn has_few(block: u64, most: usize, rows: &[Row]) -> bool
     requires { rise_above 0 rows.now ≡ true }
-    ensures { IsTrue result → length (filter (λ row. block_of row.num == block) rows.now) ≤ most }
+    ensures { result ≡ nat_le (length (filter (λ row. block_of row.num == block) rows.now)) most }
 {
     let end = end_of(block, rows);
     if end <= most {
         return true;
     }
-    match row_there(end - most - 1, rows) {
-        Some(row) => row.num / RECORDS_PER_BLOCK < block,
-        None => false,
-    }
+    rows[end - most - 1].num / RECORDS_PER_BLOCK < block
 }
 
 // whether the record of the number stands at the place
@@ -155,15 +152,17 @@ fn stands_at(place: usize, num: u64, rows: &[Row]) -> bool
     }
 }
 
-/// Puts a record of a number that none has at its place.
-pub(crate) fn put_row(rows: &mut Rows, row: Row) -> Result<(), NoMemory>
+/// Puts a record of a number that none has at its place, which it answers.
+pub(crate) fn put_row(rows: &mut Rows, row: Row) -> Result<usize, NoMemory>
     requires rising { rise_above 0 rows.old ≡ true }
     requires free { row_at row.num rows.old ≡ None }
     ensures ok { OnOk result (rows.new ≡ with_row row rows.old) }
+    ensures place { IfOk result (λ place. slice_get rows.new place ≡ Some row) }
     ensures err { OnErr result (rows.new ≡ rows.old) }
 {
     let place = place_of(row.num, rows.as_slice());
-    rows.insert(place, row)
+    rows.insert(place, row)?;
+    Ok(place)
 }
 
 /// Gives the record of the number another image.

@@ -103,12 +103,12 @@ impl State {
     }
 
     /// Puts a record of a free number into a file.
-    pub(crate) fn add_row(&mut self, file: u16, num: u64, image: &Bytes) -> Result<(), NoMemory>
+    pub(crate) fn add_row(&mut self, file: u16, num: u64, image: Bytes) -> Result<(), NoMemory>
         requires file { file < length self.old }
-        requires len { takes_len_in (slice_get self.old file) (length image.now) ≡ true }
+        requires len { takes_len_in (slice_get self.old file) (length image) ≡ true }
         requires num { 1 ≤ num }
         requires free { row_at num (records_at self.old file) ≡ None }
-        ensures ok { OnOk result (self.new ≡ in_file self.old file (with_row (record { num = num; image = image.now }))) }
+        ensures ok { OnOk result (self.new ≡ in_file self.old file (with_row (record { num = num; image = image }))) }
         ensures err { OnErr result (self.new ≡ self.old) }
     {
         let place = usize::from(file);
@@ -123,10 +123,10 @@ impl State {
     }
 
     /// Gives the record of the number in a file another image.
-    pub(crate) fn rewrite_row(&mut self, file: u16, num: u64, image: &Bytes) -> Result<(), NoMemory>
+    pub(crate) fn rewrite_row(&mut self, file: u16, num: u64, image: Bytes) -> Result<(), NoMemory>
         requires file { file < length self.old }
-        requires len { takes_len_in (slice_get self.old file) (length image.now) ≡ true }
-        ensures ok { OnOk result (self.new ≡ in_file self.old file (with_image num image.now)) }
+        requires len { takes_len_in (slice_get self.old file) (length image) ≡ true }
+        ensures ok { OnOk result (self.new ≡ in_file self.old file (with_image num image)) }
         ensures err { OnErr result (self.new ≡ self.old) }
     {
         let place = usize::from(file);

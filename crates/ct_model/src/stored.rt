@@ -53,34 +53,27 @@ pub(crate) fn new_cache(alloc: Global, file: &File) -> Result<Cache, NoMemory>
     })
 }
 
-// a copy of the image
-fn copy_of(image: &Bytes) -> Result<Bytes, NoMemory>
-    ensures { IfOk result (λ copy. copy ≡ image.now) }
-{
-    Ok(image.clone()?)
-}
-
 /// Puts a record of a free number into the file.
 pub(crate) fn add_row(
     alloc: Global,
     file: &mut File,
     cache: &mut Cache,
     num: u64,
-    image: &Bytes,
+    image: Bytes,
 ) -> Result<(), NoMemory>
     requires stored { IsStored file.old cache.old }
-    requires len { has_fitting_len file.old.def.kind (length image.now) ≡ true }
+    requires len { has_fitting_len file.old.def.kind (length image) ≡ true }
     requires num { 1 ≤ num }
     requires free { row_at num file.old.records ≡ None }
-    ensures ok { OnOk result (file.new ≡ with_records file.old (with_row (record { num = num; image = image.now }) file.old.records)) }
+    ensures ok { OnOk result (file.new ≡ with_records file.old (with_row (record { num = num; image = image }) file.old.records)) }
     ensures err { OnErr result (file.new ≡ file.old) }
     ensures stored { IsStored file.new cache.new }
 {
-    let copy = copy_of(image)?;
-    put_row(&mut file.records, Row { num, image: copy })?;
+    let place = put_row(&mut file.records, Row { num, image })?;
+    let row = &file.records.as_slice()[place];
     let indexes = file.def.indexes.as_slice();
     let pairs = cache.pairs.as_mut_slice();
-    if let Err(refusal) = put_pairs(alloc, pairs, indexes, num, image.as_slice()) {
+    if let Err(refusal) = put_pairs(alloc, pairs, indexes, num, row.image.as_slice()) {
         take_row(&mut file.records, num);
         return Err(refusal);
     }
@@ -95,15 +88,14 @@ pub(crate) fn rewrite_row(
     file: &mut File,
     cache: &mut Cache,
     num: u64,
-    image: &Bytes,
+    image: Bytes,
 ) -> Result<(), NoMemory>
     requires stored { IsStored file.old cache.old }
-    requires len { has_fitting_len file.old.def.kind (length image.now) ≡ true }
-    ensures ok { OnOk result (file.new ≡ with_records file.old (with_image num image.now file.old.records)) }
+    requires len { has_fitting_len file.old.def.kind (length image) ≡ true }
+    ensures ok { OnOk result (file.new ≡ with_records file.old (with_image num image file.old.records)) }
     ensures err { OnErr result (file.new ≡ file.old) }
     ensures stored { IsStored file.new cache.new }
 {
-    let copy = copy_of(image)?;
     let Some(old) = image_at(num, file.records.as_slice()) else {
         return Ok(());
     };
@@ -111,7 +103,7 @@ pub(crate) fn rewrite_row(
     let indexes = file.def.indexes.as_slice();
     let pairs = cache.pairs.as_mut_slice();
     exchange_pairs(alloc, pairs, indexes, num, old, image.as_slice())?;
-    put_image(&mut file.records, num, copy);
+    put_image(&mut file.records, num, image);
     if shrinks {
         cache.full_below = cache.full_below.min(num / RECORDS_PER_BLOCK);
     }

@@ -37,14 +37,14 @@ fn add(alloc: Global, num: u64, image: &[u8]) -> Result<Change, NoMemory> {
 
 fn apply_add(alloc: Global, state: &mut State, num: u64, image: &[u8]) -> Result<(), Refused> {
     let change = add(alloc, num, image)?;
-    apply(alloc, state, &change)
+    apply(alloc, state, change)
 }
 
 // a file of images of 2 to 3,840 bytes with one record
 fn one_record(alloc: Global, image: &[u8]) -> Result<State, Refused> {
     let mut state = State::new(alloc);
     let def = parts(alloc, Kind::Variable { min: 2, max: 3840 })?;
-    apply(alloc, &mut state, &Change::Make { file: 0, def })?;
+    apply(alloc, &mut state, Change::Make { file: 0, def })?;
     apply_add(alloc, &mut state, 1, image)?;
     Ok(state)
 }
@@ -83,12 +83,12 @@ fn a_record_is_rewritten_and_deleted(rt: HostRuntime) {
         old: Items::from_slice(alloc, b"ab").expect(&rt, "memory"),
         new: Items::from_slice(alloc, b"cd").expect(&rt, "memory"),
     };
-    assert_eq!(rt; apply(alloc, &mut state, &rewrite), Ok(()));
+    assert_eq!(rt; apply(alloc, &mut state, rewrite), Ok(()));
     let file = file_at(&state, 0).expect(&rt, "there is a file");
     assert!(rt; has_image(1, b"cd", file.records.as_slice()));
     let added = add(alloc, 1, b"cd").expect(&rt, "memory");
     let delete = inverse(&added).expect(&rt, "it has an inverse");
-    assert_eq!(rt; apply(alloc, &mut state, &delete), Ok(()));
+    assert_eq!(rt; apply(alloc, &mut state, delete), Ok(()));
     let file = file_at(&state, 0).expect(&rt, "there is a file");
     assert!(rt; row_at(1, file.records.as_slice()).is_none());
 }

@@ -121,7 +121,11 @@ impl Ord for Pair {
     ghost matches_eq = { λ _ _. refl };
 
     fn cmp(&self, other: &Pair) -> Ordering {
+        if self.front != other.front {
+            let (own, others) = (self.key.as_slice(), other.key.as_slice());
+            return compare_by_fronts(self.front, own, other.front, others);
+        }
         let (own, others) = (self.key.as_slice(), other.key.as_slice());
-        compare_by_fronts(self.front, own, other.front, others).then(self.num.cmp(&other.num))
+        compare_bytes(own, others).then(self.num.cmp(&other.num))
     }
 }

@@ -11,7 +11,7 @@ ghost use Rattle.ct_recover.specs.Replaying.{IsWithin, BeginsWithCommit, BeginsW
 
 use crate::fault::{OpenFault, fault_of};
 use ct_codec::ReadFault;
-use ct_definitions::{Change, Transaction};
+use ct_definitions::{Changes, Transaction};
 use ct_disk::Disk;
 use ct_group::{Group, read_group};
 use ct_log::{Log, Part, Start, Window};
@@ -97,7 +97,7 @@ impl Replay {
         ensures place { self.new.place ≡ self.old.place }
     {
         let (transaction, size) = commit_at(alloc, self.number + 1, bytes)?;
-        make_changes(alloc, &mut self.state, transaction.changes.as_slice())?;
+        make_changes(alloc, &mut self.state, transaction.changes)?;
         self.number += 1;
         self.ordinal = (self.ordinal + 1).min(LAST_ORDINAL);
         Ok(size)
@@ -135,13 +135,13 @@ fn commit_of(group: Group) -> Option<Transaction>
     }
 }
 
-/// Makes changes one after the other.
-fn make_changes(alloc: Global, state: &mut State, changes: &[Change]) -> Result<(), Refused>
-    ensures made { OnOk result (state.new ≡ after_changes state.old changes.now) }
-    ensures allowed { OnOk result (allows_all state.old changes.now ≡ true) }
-    ensures refused { IsErrOf result Refused.NotDefined → allows_all state.old changes.now ≡ false }
+/// Makes changes one after the other. What they bring moves into the state.
+fn make_changes(alloc: Global, state: &mut State, changes: Changes) -> Result<(), Refused>
+    ensures made { OnOk result (state.new ≡ after_changes state.old changes) }
+    ensures allowed { OnOk result (allows_all state.old changes ≡ true) }
+    ensures refused { IsErrOf result Refused.NotDefined → allows_all state.old changes ≡ false }
 {
-    for change in changes {
+    for change in changes.into_vec() {
         apply(alloc, state, change)?;
     }
     Ok(())

@@ -102,7 +102,7 @@ impl<P: Disk, L: Disk> Yard<P, L> {
             return Err(self.halted(HaltCause::Limit));
         }
         self.write(group)?;
-        self.perform(alloc, &transaction)
+        self.perform(alloc, transaction)
     }
 
     /// Whether a group of this many bytes brings no number past its last value.
@@ -132,14 +132,15 @@ impl<P: Disk, L: Disk> Yard<P, L> {
     }
 
     /// Makes the change of a transaction that the log has. There it can only want memory.
-    fn perform(&mut self, alloc: Global, transaction: &Transaction) -> Result<u64, CommitFault>
-        requires one { HasOne self.old.state transaction.now }
+    fn perform(&mut self, alloc: Global, transaction: Transaction) -> Result<u64, CommitFault>
+        requires one { HasOne self.old.state transaction }
         ensures pages { self.new.pages ≡ self.old.pages }
         ensures log { self.new.log ≡ self.old.log }
         ensures front { self.new.front ≡ self.old.front }
-        ensures done { Performs transaction.now result self.old self.new }
+        ensures done { Performs transaction result self.old self.new }
     {
-        match apply(alloc, &mut self.state, &transaction.changes.as_slice()[0]) {
+        let mut changes = transaction.changes;
+        match apply(alloc, &mut self.state, changes.remove(0)) {
             Ok(()) => Ok(self.front),
             Err(_) => Err(self.halted(HaltCause::Memory)),
         }

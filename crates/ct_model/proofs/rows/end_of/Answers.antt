@@ -1,8 +1,9 @@
-use Rattle.std.proofs.Common.{rules, nat_le, arith}
+use Rattle.std.proofs.Common.{◌≡◌, length, rules, nat_le, arith}
+use Rattle.std.proofs.lemmas.Bool.Decides.{nat_tests}
 use Rattle.std.proofs.lemmas.List.Sorted.{IsPartitionPoint-from_clause, IsPartitionedBy-leb}
 use Rattle.ct_definitions.specs.declared.store.Row.{Row}
 use Rattle.ct_definitions.specs.Room.{block_of}
-use Rattle.ct_model.proofs.Places.{prefix_from_point, blocks_rise, starts_first}
+use Rattle.ct_model.proofs.Places.{prefix_from_point, blocks_rise, ends, starts_first}
 use Rattle.ct_model.proofs.rows.end_of.Goals as goal
 
 pub returns-clause-value : goal.returns-clause-value
@@ -15,4 +16,6 @@ pub returns-clause-start : goal.returns-clause-start
 returns-clause-start c = rw (returns-clause-value c) (starts_first c.args.block c.args.rows.now)
 
 pub returns-then-are_up_to-clause-start : goal.returns-then-are_up_to-clause-start
-returns-then-are_up_to-clause-start c = omega (arith, starts_first c.args.block c.args.rows.now, c.if-are_up_to.ensures)
+returns-then-are_up_to-clause-start c =
+    let all : ends c.args.block c.args.rows.now ≡ length c.args.rows.now = grind (arith, nat_tests) in
+    omega (arith, starts_first c.args.block c.args.rows.now)

@@ -22,11 +22,11 @@ invariant_of-self c =
 
 pub rewrite_row-requires-clause-len : goal.rewrite_row-requires-clause-len
 rewrite_row-requires-clause-len c =
-    fits_read c.args.self.now c.self.inside.files.items c.args.file c.from-place.result (length c.args.image.now) c.index_mut.result.now c.self.view_is c.from-place.ensures c.requires.file c.index_mut.ensures.value c.requires.len
+    fits_read c.args.self.now c.self.inside.files.items c.args.file c.from-place.result (length c.args.image) c.index_mut.result.now c.self.view_is c.from-place.ensures c.requires.file c.index_mut.ensures.value c.requires.len
 
 pub returns-clause-ok : goal.returns-clause-ok
 returns-clause-ok c =
-    change_made c.args.self.now c.self.inside.files.items c.args.file c.from-place.result (with_image c.args.num c.args.image.now) c.index_mut.result.now c.rewrite_row.new.file c.rewrite_row.result
+    change_made c.args.self.now c.self.inside.files.items c.args.file c.from-place.result (with_image c.args.num c.args.image) c.index_mut.result.now c.rewrite_row.new.file c.rewrite_row.result
     c.self.view_is c.from-place.ensures c.requires.file c.index_mut.ensures.value c.rewrite_row.ensures.ok
 
 pub returns-clause-err : goal.returns-clause-err

@@ -1,7 +1,5 @@
-use Rattle.std.proofs.Common.{List, Err, refl, sym, ap, ◌∙◌}
+use Rattle.std.proofs.Common.{Err, refl}
 use Rattle.std.proofs.lemmas.Result.{err_from_is_err_and}
-use Rattle.ct_definitions.specs.declared.change.Change.{Change}
-use Rattle.ct_definitions.specs.Histories.{allows_all}
 use Rattle.ct_model.specs.declared.change.Refused.TheVariants.{NotDefined}
 use Rattle.ct_recover.proofs.Commits.{undefined, err_was}
 use Rattle.ct_recover.proofs.replay.Replay.replay_commit.Goals as goal
@@ -10,4 +8,4 @@ pub returns-in_err-make_changes-clause-refused : goal.returns-in_err-make_change
 returns-in_err-make_changes-clause-refused c = λ is.
     let p = err_from_is_err_and c.from_residual-in_err-make_changes.result c.from_residual-in_err-make_changes.ensures.1 in
     undefined c.args.self.now.state c.args.self.now.number c.in_ok-transaction.size c.args.bytes.now c.in_ok-transaction.transaction c.in_ok-transaction.ensures.found
-    (ap (λ (l : List Change). allows_all c.args.self.now.state l) (sym c.as_slice.ensures) ∙ c.in_err-make_changes.ensures.refused (err_was c.from_residual-in_err-make_changes.result (Err c.in_err-make_changes.field-0.0) c.in_err-make_changes.field-0.0 p.0 NotDefined p.1 p.2 refl is))
+    (c.in_err-make_changes.ensures.refused (err_was c.from_residual-in_err-make_changes.result (Err c.in_err-make_changes.field-0.0) c.in_err-make_changes.field-0.0 p.0 NotDefined p.1 p.2 refl is))
