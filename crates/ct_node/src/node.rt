@@ -341,6 +341,7 @@ impl Node {
     pub fn copy_into(&self, into: &mut Node)
         ensures { into.new ≡ self.now }
     {
+        let end = self.count * width_of(self.key_len, self.leaf);
         into.file = self.file;
         into.index = self.index;
         into.leaf = self.leaf;
@@ -349,8 +350,7 @@ impl Node {
         into.high = self.high;
         into.right = self.right;
         into.count = self.count;
-        let cells = self.cells;
-        into.cells = cells;
+        copy_cells(self.cells.as_slice(), 0, end, into.cells.as_mut_slice());
     }
 
     /// Makes another node the one to the right of this: from the middle pair on, up to the bound and
