@@ -44,7 +44,12 @@ pub(crate) fn start<N: Nodes>(walk: &Walk, nodes: &mut N) -> (Stage, Turn<()>)
 }
 
 /// Goes on from a page: right, down, or to a latch on the leaf that it is.
-pub(crate) fn descend<N: Nodes>(walk: &Walk, nodes: &mut N, page: u64) -> (Stage, Turn<()>)
+pub(crate) fn descend<N: Nodes>(
+    walk: &Walk,
+    nodes: &mut N,
+    page: u64,
+    node: &mut Node,
+) -> (Stage, Turn<()>)
     requires { Stands walk.now (Stage.Down page) (N.world nodes.old) }
     ensures stepped { Stepped walk.now result.0 (N.world nodes.old) (N.world nodes.new) }
     ensures keys { KeepsKeys (N.world nodes.old) (N.world nodes.new) }
@@ -57,8 +62,7 @@ pub(crate) fn descend<N: Nodes>(walk: &Walk, nodes: &mut N, page: u64) -> (Stage
     ensures busy { OnBusy result.1 (IsInTheWay (N.flushes nodes.old) (N.world nodes.old) walk.now.op) }
     ensures cause { CausedTurn result.1 (N.faults nodes.old) (N.faults nodes.new) (N.halted nodes.old) (N.halted nodes.new) }
 {
-    let mut node = Node::new(0, 0, true, 1);
-    let seen = nodes.look(walk.op, page, &mut node);
+    let seen = nodes.look(walk.op, page, node);
     if !is_done(&seen) {
         return (Stage::Down { page }, seen);
     }
@@ -102,7 +106,12 @@ pub(crate) fn is_for(node: &Node, pair: &Pair) -> bool
 }
 
 /// One turn on the way to a leaf that is to be the operation's own.
-pub(crate) fn find_leaf<N: Nodes>(walk: &Walk, stage: Stage, nodes: &mut N) -> (Stage, Turn<()>)
+pub(crate) fn find_leaf<N: Nodes>(
+    walk: &Walk,
+    stage: Stage,
+    nodes: &mut N,
+    node: &mut Node,
+) -> (Stage, Turn<()>)
     requires stands { Stands walk.now stage (N.world nodes.old) }
     requires finding { IsFinding stage }
     ensures stepped { Stepped walk.now result.0 (N.world nodes.old) (N.world nodes.new) }
@@ -115,7 +124,7 @@ pub(crate) fn find_leaf<N: Nodes>(walk: &Walk, stage: Stage, nodes: &mut N) -> (
 {
     match stage {
         Stage::Start => return start(walk, nodes),
-        Stage::Down { page } => return descend(walk, nodes, page),
+        Stage::Down { page } => return descend(walk, nodes, page, node),
         Stage::Leaf { page } => return own_leaf(walk, nodes, page),
         Stage::Held { page: _ } => unreachable!(),
         Stage::Full { page: _ } => unreachable!(),

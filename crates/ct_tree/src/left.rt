@@ -21,6 +21,7 @@ pub(crate) fn left_step<N: Nodes>(
     or_at: bool,
     stage: Stage,
     nodes: &mut N,
+    node: &mut Node,
 ) -> (Stage, Turn<()>, Option<Pair>)
     requires stands { Stands walk.now stage (N.world nodes.old) }
     requires open { IsSearchingLeft or_at stage }
@@ -34,14 +35,14 @@ pub(crate) fn left_step<N: Nodes>(
 {
     match stage {
         Stage::Start => return going(start(walk, nodes)),
-        Stage::Down { page } => return going(descend(walk, nodes, page)),
+        Stage::Down { page } => return going(descend(walk, nodes, page, node)),
         Stage::Leaf { page } => return going(share_first(walk, nodes, page)),
-        Stage::SharedLeft { page } => return look_first(alloc, walk, or_at, nodes, page),
+        Stage::SharedLeft { page } => return look_first(alloc, walk, or_at, nodes, page, node),
         Stage::Left {
             low,
             or_at: over,
             way,
-        } => return go_left(alloc, walk, over, nodes, low, way),
+        } => return go_left(alloc, walk, over, nodes, low, way, node),
         Stage::Held { page: _ } => unreachable!(),
         Stage::Full { page: _ } => unreachable!(),
         Stage::Split { page: _, right: _ } => unreachable!(),
@@ -91,6 +92,7 @@ fn look_first<N: Nodes>(
     or_at: bool,
     nodes: &mut N,
     page: u64,
+    node: &mut Node,
 ) -> (Stage, Turn<()>, Option<Pair>)
     requires { Stands walk.now (Stage.SharedLeft page) (N.world nodes.old) }
     ensures stepped { Stepped walk.now result.0 (N.world nodes.old) (N.world nodes.new) }
@@ -101,8 +103,7 @@ fn look_first<N: Nodes>(
     ensures busy { OnBusy result.1 (IsInTheWay (N.flushes nodes.old) (N.world nodes.old) walk.now.op) }
     ensures cause { CausedTurn result.1 (N.faults nodes.old) (N.faults nodes.new) (N.halted nodes.old) (N.halted nodes.new) }
 {
-    let mut node = Node::new(0, 0, true, 1);
-    let seen = nodes.look(walk.op, page, &mut node);
+    let seen = nodes.look(walk.op, page, node);
     if !is_done(&seen) {
         return (Stage::SharedLeft { page }, seen, None);
     }
@@ -132,6 +133,7 @@ fn go_left<N: Nodes>(
     nodes: &mut N,
     low: Pair,
     way: Way,
+    node: &mut Node,
 ) -> (Stage, Turn<()>, Option<Pair>)
     requires { Stands walk.now (Stage.Left low or_at way) (N.world nodes.old) }
     ensures stepped { Stepped walk.now result.0 (N.world nodes.old) (N.world nodes.new) }
@@ -144,9 +146,9 @@ fn go_left<N: Nodes>(
 {
     match way {
         Way::Start => return going(start_left(walk, or_at, nodes, low)),
-        Way::Down { page } => return going(descend_left(walk, or_at, nodes, low, page)),
+        Way::Down { page } => return going(descend_left(walk, or_at, nodes, low, page, node)),
         Way::Leaf { page } => return going(share_left(walk, or_at, nodes, low, page)),
-        Way::Shared { page } => return look_left(alloc, walk, or_at, nodes, low, page),
+        Way::Shared { page } => return look_left(alloc, walk, or_at, nodes, low, page, node),
     }
 }
 
@@ -195,6 +197,7 @@ fn descend_left<N: Nodes>(
     nodes: &mut N,
     low: Pair,
     page: u64,
+    node: &mut Node,
 ) -> (Stage, Turn<()>)
     requires { Stands walk.now (Stage.Left low or_at (Way.Down page)) (N.world nodes.old) }
     ensures stepped { Stepped walk.now result.0 (N.world nodes.old) (N.world nodes.new) }
@@ -205,13 +208,12 @@ fn descend_left<N: Nodes>(
     ensures busy { OnBusy result.1 (IsInTheWay (N.flushes nodes.old) (N.world nodes.old) walk.now.op) }
     ensures cause { CausedTurn result.1 (N.faults nodes.old) (N.faults nodes.new) (N.halted nodes.old) (N.halted nodes.new) }
 {
-    let mut node = Node::new(0, 0, true, 1);
-    let seen = nodes.look(walk.op, page, &mut node);
+    let seen = nodes.look(walk.op, page, node);
     if !is_done(&seen) {
         let way = Way::Down { page };
         return (Stage::Left { low, or_at, way }, seen);
     }
-    let (place, low) = next_before(&node, low);
+    let (place, low) = next_before(node, low);
     match place {
         Place::Right(right) => {
             let way = Way::Down { page: right };
@@ -274,6 +276,7 @@ fn look_left<N: Nodes>(
     nodes: &mut N,
     low: Pair,
     page: u64,
+    node: &mut Node,
 ) -> (Stage, Turn<()>, Option<Pair>)
     requires { Stands walk.now (Stage.Left low or_at (Way.Shared page)) (N.world nodes.old) }
     ensures stepped { Stepped walk.now result.0 (N.world nodes.old) (N.world nodes.new) }
@@ -284,13 +287,12 @@ fn look_left<N: Nodes>(
     ensures busy { OnBusy result.1 (IsInTheWay (N.flushes nodes.old) (N.world nodes.old) walk.now.op) }
     ensures cause { CausedTurn result.1 (N.faults nodes.old) (N.faults nodes.new) (N.halted nodes.old) (N.halted nodes.new) }
 {
-    let mut node = Node::new(0, 0, true, 1);
-    let seen = nodes.look(walk.op, page, &mut node);
+    let seen = nodes.look(walk.op, page, node);
     let way = Way::Shared { page };
     if !is_done(&seen) {
         return (Stage::Left { low, or_at, way }, seen, None);
     }
-    let (place, low) = next_before(&node, low);
+    let (place, low) = next_before(node, low);
     if let Place::Right(right) = place {
         nodes.free(walk.op, page);
         let way = Way::Down { page: right };

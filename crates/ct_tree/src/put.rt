@@ -23,6 +23,7 @@ pub struct Put {
     pub walk: Walk,
     pub mark: Mark,
     pub stage: Stage,
+    node: Node,
 }
 
 impl Put {
@@ -39,6 +40,7 @@ impl Put {
             walk: Walk { op, at, target },
             mark,
             stage: Stage::Start,
+            node: Node::new(0, 0, true, 1),
         }
     }
 
@@ -60,7 +62,14 @@ impl Put {
         ensures cause { CausedTurn result (N.faults nodes.old) (N.faults nodes.new) (N.halted nodes.old) (N.halted nodes.new) }
     {
         let stage = replace(&mut self.stage, Stage::Ended);
-        let step = put_step(self.alloc, &self.walk, self.mark, stage, nodes);
+        let step = put_step(
+            self.alloc,
+            &self.walk,
+            self.mark,
+            stage,
+            nodes,
+            &mut self.node,
+        );
         self.stage = step.0;
         step.1
     }
@@ -73,6 +82,7 @@ fn put_step<N: Nodes>(
     mark: Mark,
     stage: Stage,
     nodes: &mut N,
+    node: &mut Node,
 ) -> (Stage, Turn<()>)
     requires stands { Stands walk.now stage (N.world nodes.old) }
     requires pair { IsPair walk.now.target }
@@ -87,9 +97,9 @@ fn put_step<N: Nodes>(
 {
     match stage {
         Stage::Start => return start(walk, nodes),
-        Stage::Down { page } => return descend(walk, nodes, page),
+        Stage::Down { page } => return descend(walk, nodes, page, node),
         Stage::Leaf { page } => return own_leaf(walk, nodes, page),
-        Stage::Held { page } => return put_held(walk, mark, nodes, page),
+        Stage::Held { page } => return put_held(walk, mark, nodes, page, node),
         Stage::Full { page } => return allocate(walk, nodes, page),
         Stage::Split { page, right } => return write_right(walk, nodes, page, right),
         Stage::Cut { page, right } => return cut_left(alloc, walk, nodes, page, right),
@@ -113,6 +123,7 @@ pub(crate) fn put_held<N: Nodes>(
     mark: Mark,
     nodes: &mut N,
     page: u64,
+    node: &mut Node,
 ) -> (Stage, Turn<()>)
     requires stands { Stands walk.now (Stage.Held page) (N.world nodes.old) }
     requires pair { IsPair walk.now.target }
@@ -124,8 +135,7 @@ pub(crate) fn put_held<N: Nodes>(
     ensures busy { OnBusy result.1 (IsInTheWay (N.flushes nodes.old) (N.world nodes.old) walk.now.op) }
     ensures cause { CausedTurn result.1 (N.faults nodes.old) (N.faults nodes.new) (N.halted nodes.old) (N.halted nodes.new) }
 {
-    let mut node = Node::new(0, 0, true, 1);
-    let seen = nodes.look(walk.op, page, &mut node);
+    let seen = nodes.look(walk.op, page, node);
     if !is_done(&seen) {
         return (Stage::Held { page }, seen);
     }
@@ -135,8 +145,8 @@ pub(crate) fn put_held<N: Nodes>(
             return (Stage::Down { page: right }, Turn::More);
         }
         Place::Down(_) => return (Stage::Held { page }, Turn::Refused(nodes.bad(page))),
-        Place::Here(_) => return put_here(walk, mark, nodes, page, &mut node),
-        Place::End => return put_here(walk, mark, nodes, page, &mut node),
+        Place::Here(_) => return put_here(walk, mark, nodes, page, node),
+        Place::End => return put_here(walk, mark, nodes, page, node),
     }
 }
 

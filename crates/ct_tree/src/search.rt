@@ -22,6 +22,7 @@ pub struct Search {
     pub walk: Walk,
     pub seek: Seek,
     pub stage: Stage,
+    node: Node,
 }
 
 impl Search {
@@ -37,6 +38,7 @@ impl Search {
             walk: Walk { op, at, target },
             seek,
             stage: Stage::Start,
+            node: Node::new(0, 0, true, 1),
         }
     }
 
@@ -58,7 +60,14 @@ impl Search {
         ensures cause { CausedTurn result (N.faults nodes.old) (N.faults nodes.new) (N.halted nodes.old) (N.halted nodes.new) }
     {
         let stage = replace(&mut self.stage, Stage::Ended);
-        let step = seek_step(self.alloc, &self.walk, self.seek, stage, nodes);
+        let step = seek_step(
+            self.alloc,
+            &self.walk,
+            self.seek,
+            stage,
+            nodes,
+            &mut self.node,
+        );
         self.stage = give_way(&self.walk, self.seek, step.0, &step.1, nodes);
         answer_with(step.1, step.2)
     }
@@ -88,6 +97,7 @@ fn seek_step<N: Nodes>(
     seek: Seek,
     stage: Stage,
     nodes: &mut N,
+    node: &mut Node,
 ) -> (Stage, Turn<()>, Option<Pair>)
     requires stands { Stands walk.now stage (N.world nodes.old) }
     requires open { IsSearchingBy seek stage }
@@ -100,10 +110,10 @@ fn seek_step<N: Nodes>(
     ensures cause { CausedTurn result.1 (N.faults nodes.old) (N.faults nodes.new) (N.halted nodes.old) (N.halted nodes.new) }
 {
     match seek {
-        Seek::AtOrAbove => return search_step(alloc, walk, false, stage, nodes),
-        Seek::Above => return search_step(alloc, walk, true, stage, nodes),
-        Seek::AtOrBelow => return left_step(alloc, walk, true, stage, nodes),
-        Seek::Below => return left_step(alloc, walk, false, stage, nodes),
+        Seek::AtOrAbove => return search_step(alloc, walk, false, stage, nodes, node),
+        Seek::Above => return search_step(alloc, walk, true, stage, nodes, node),
+        Seek::AtOrBelow => return left_step(alloc, walk, true, stage, nodes, node),
+        Seek::Below => return left_step(alloc, walk, false, stage, nodes, node),
     }
 }
 
@@ -137,6 +147,7 @@ fn search_step<N: Nodes>(
     above: bool,
     stage: Stage,
     nodes: &mut N,
+    node: &mut Node,
 ) -> (Stage, Turn<()>, Option<Pair>)
     requires stands { Stands walk.now stage (N.world nodes.old) }
     requires open { IsSearching above stage }
@@ -149,14 +160,20 @@ fn search_step<N: Nodes>(
     ensures cause { CausedTurn result.1 (N.faults nodes.old) (N.faults nodes.new) (N.halted nodes.old) (N.halted nodes.new) }
 {
     if let Stage::Shared { page, above: over } = stage {
-        return look_shared(alloc, walk, over, nodes, page);
+        return look_shared(alloc, walk, over, nodes, page, node);
     }
-    let step = find_shared(walk, above, stage, nodes);
+    let step = find_shared(walk, above, stage, nodes, node);
     (step.0, step.1, None)
 }
 
 /// One turn on the way to a leaf that is to be shared.
-fn find_shared<N: Nodes>(walk: &Walk, above: bool, stage: Stage, nodes: &mut N) -> (Stage, Turn<()>)
+fn find_shared<N: Nodes>(
+    walk: &Walk,
+    above: bool,
+    stage: Stage,
+    nodes: &mut N,
+    node: &mut Node,
+) -> (Stage, Turn<()>)
     requires stands { Stands walk.now stage (N.world nodes.old) }
     requires open { IsSeeking above stage }
     ensures stepped { Stepped walk.now result.0 (N.world nodes.old) (N.world nodes.new) }
@@ -169,7 +186,7 @@ fn find_shared<N: Nodes>(walk: &Walk, above: bool, stage: Stage, nodes: &mut N) 
 {
     match stage {
         Stage::Start => return start(walk, nodes),
-        Stage::Down { page } => return descend(walk, nodes, page),
+        Stage::Down { page } => return descend(walk, nodes, page, node),
         Stage::Leaf { page } => return share_leaf(walk, above, nodes, page),
         Stage::Share { page, above: over } => return share_next(walk, over, nodes, page),
         Stage::Held { page: _ } => unreachable!(),
@@ -247,6 +264,7 @@ pub(crate) fn look_shared<N: Nodes>(
     above: bool,
     nodes: &mut N,
     page: u64,
+    node: &mut Node,
 ) -> (Stage, Turn<()>, Option<Pair>)
     requires { Stands walk.now (Stage.Shared page above) (N.world nodes.old) }
     ensures stepped { Stepped walk.now result.0 (N.world nodes.old) (N.world nodes.new) }
@@ -257,8 +275,7 @@ pub(crate) fn look_shared<N: Nodes>(
     ensures busy { OnBusy result.1 (IsInTheWay (N.flushes nodes.old) (N.world nodes.old) walk.now.op) }
     ensures cause { CausedTurn result.1 (N.faults nodes.old) (N.faults nodes.new) (N.halted nodes.old) (N.halted nodes.new) }
 {
-    let mut node = Node::new(0, 0, true, 1);
-    let seen = nodes.look(walk.op, page, &mut node);
+    let seen = nodes.look(walk.op, page, node);
     if !is_done(&seen) {
         return (Stage::Shared { page, above }, seen, None);
     }

@@ -19,6 +19,7 @@ pub struct Take {
     pub walk: Walk,
     pub mark: Mark,
     pub stage: Stage,
+    node: Node,
 }
 
 impl Take {
@@ -34,6 +35,7 @@ impl Take {
             walk: Walk { op, at, target },
             mark,
             stage: Stage::Start,
+            node: Node::new(0, 0, true, 1),
         }
     }
 
@@ -56,7 +58,7 @@ impl Take {
         ensures cause { CausedTurn result (N.faults nodes.old) (N.faults nodes.new) (N.halted nodes.old) (N.halted nodes.new) }
     {
         let stage = replace(&mut self.stage, Stage::Ended);
-        let step = take_step(&self.walk, self.mark, stage, nodes);
+        let step = take_step(&self.walk, self.mark, stage, nodes, &mut self.node);
         self.stage = step.0;
         answer_with(step.1, step.2)
     }
@@ -68,6 +70,7 @@ fn take_step<N: Nodes>(
     mark: Mark,
     stage: Stage,
     nodes: &mut N,
+    node: &mut Node,
 ) -> (Stage, Turn<()>, bool)
     requires stands { Stands walk.now stage (N.world nodes.old) }
     requires pair { IsPair walk.now.target }
@@ -82,9 +85,9 @@ fn take_step<N: Nodes>(
     ensures cause { CausedTurn result.1 (N.faults nodes.old) (N.faults nodes.new) (N.halted nodes.old) (N.halted nodes.new) }
 {
     if let Stage::Held { page } = stage {
-        return take_held(walk, mark, nodes, page);
+        return take_held(walk, mark, nodes, page, node);
     }
-    let step = find_leaf(walk, stage, nodes);
+    let step = find_leaf(walk, stage, nodes, node);
     (step.0, step.1, false)
 }
 
@@ -95,6 +98,7 @@ pub(crate) fn take_held<N: Nodes>(
     mark: Mark,
     nodes: &mut N,
     page: u64,
+    node: &mut Node,
 ) -> (Stage, Turn<()>, bool)
     requires stands { Stands walk.now (Stage.Held page) (N.world nodes.old) }
     requires pair { IsPair walk.now.target }
@@ -107,8 +111,7 @@ pub(crate) fn take_held<N: Nodes>(
     ensures busy { OnBusy result.1 (IsInTheWay (N.flushes nodes.old) (N.world nodes.old) walk.now.op) }
     ensures cause { CausedTurn result.1 (N.faults nodes.old) (N.faults nodes.new) (N.halted nodes.old) (N.halted nodes.new) }
 {
-    let mut node = Node::new(0, 0, true, 1);
-    let seen = nodes.look(walk.op, page, &mut node);
+    let seen = nodes.look(walk.op, page, node);
     if !is_done(&seen) {
         return (Stage::Held { page }, seen, false);
     }
@@ -118,8 +121,8 @@ pub(crate) fn take_held<N: Nodes>(
             return (Stage::Down { page: right }, Turn::More, false);
         }
         Place::Down(_) => return (Stage::Held { page }, Turn::Refused(nodes.bad(page)), false),
-        Place::Here(_) => return take_here(walk, mark, nodes, page, &mut node),
-        Place::End => return take_here(walk, mark, nodes, page, &mut node),
+        Place::Here(_) => return take_here(walk, mark, nodes, page, node),
+        Place::End => return take_here(walk, mark, nodes, page, node),
     }
 }
 
