@@ -25,7 +25,7 @@ mod tests;
 
 pub use begin::begins_in_memory;
 pub use ct_tree_laws::{Rise, Separator, Stage, Walk, Way};
-pub use laws::half_split_is_not_reached;
+pub use laws::{half_split_is_not_reached, levels_are_even};
 pub use memory::run_in_memory;
 pub use program::{Answer, Happened, Program, turn};
 pub use put::Put;

@@ -1,6 +1,8 @@
 pub mod Holders
 pub mod Taking
 pub mod Pages
+pub mod Levels
+pub mod EvenLevels
 pub mod Kept
 pub mod Chains
 pub mod LeftKept

@@ -38,6 +38,7 @@ stepped_by walk from to w now same stands step place = record {
   stands = λ founded. let here = stands (sym same ∙ founded) in stands_after walk from to w now here (step here) (place here);
   keeps = Keeps-step walk.op w now same (λ founded. step (stands founded));
   founded = same;
+  levels = λ founded. (step (stands founded)).levels;
 }
 
 abbrev pub freed : ℕ → ℕ → World → World

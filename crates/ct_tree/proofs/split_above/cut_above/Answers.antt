@@ -1,8 +1,11 @@
 use Rattle.std.proofs.Common.{◌≡◌, ℕ, ◌+◌, ◌/◌, ◌<◌, ◌≤◌, length, arith, refl, ap}
 use Rattle.ct_node.specs.Worlds.{World, Holds, page_at, edited, Cuts}
+use Rattle.ct_tree_laws.specs.declared.walk.Stage.TheVariants as stage
+use Rattle.ct_tree_laws.specs.declared.rise.Rise.TheVariants as rise
+use Rattle.ct_tree_laws.proofs.Turns.{stays}
 use Rattle.ct_tree_laws.proofs.PostingZeros.{middle_low}
 use Rattle.ct_tree_laws.proofs.PostingSplits.{cut_above_enough, cuts_above, cut_above_is_tidy, cut_above_left, cut_above_right, cut_above_keys}
-use Rattle.ct_tree.proofs.Done.{when_done, after_done}
+use Rattle.ct_tree.proofs.Done.{when_done, after_done, after_other}
 use Rattle.ct_tree.proofs.split_above.cut_above.Goals as goal
 
 pub bad-fault-requires : goal.bad-fault-requires
@@ -39,6 +42,14 @@ free-requires-2 g c =
     cut_above_is_tidy c.args.walk.now c.args.separator c.args.page c.args.right node c.cut.new.self w mid c.requires
     (when_done c.look-seen.result (λ _. page_at w c.args.page ≡ Holds node) (cc) c.look-seen.ensures.seen) c.cut.ensures.node
     (after_done c.edit-edited.result (λ _. edited c.args.walk.now.op c.args.page c.cut.new.self w) w mid (cc) (rw c.look-seen.ensures.world at c.edit-edited.ensures.world))
+
+pub returns-then-not-is_done-2-clause-stepped : goal.returns-then-not-is_done-2-clause-stepped
+returns-then-not-is_done-2-clause-stepped g c =
+    let w = g.N.Nodes.world c.args.nodes.now in
+    let mid = g.N.Nodes.world c.edit-edited.new.self in
+    stays c.args.walk.now (stage.Post c.args.separator (rise.Cut c.args.page c.args.right)) w mid
+    (after_other c.edit-edited.result (λ _. edited c.args.walk.now.op c.args.page c.cut.new.self w) w mid (cc) (rw c.look-seen.ensures.world at c.edit-edited.ensures.world))
+    c.requires
 
 pub returns-then-covers-clause-stepped : goal.returns-then-covers-clause-stepped
 returns-then-covers-clause-stepped g c =
