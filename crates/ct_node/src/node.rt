@@ -10,7 +10,7 @@ ghost use Rattle.ct_page.specs.Fields.{u64_at};
 ghost use Rattle.ct_page.specs.Headers.{has_fields};
 ghost use Rattle.ct_node.specs.Nodes.{IsNode, pairs_in, capacity_of, is_from, is_below, is_within, has_pair, with_entry, has_other_pair};
 ghost use Rattle.ct_node.specs.Cells.{cells_of, pair_at, with_bytes};
-ghost use Rattle.ct_node.specs.Places.{is_before, is_past, is_ahead, here, down, next_place};
+ghost use Rattle.ct_node.specs.Places.{is_before, is_past, is_ahead, here, down, next_place, begins_below};
 ghost use Rattle.ct_node.specs.Halves.{middle_of, upper_half, lower_half};
 ghost use Rattle.ct_node.specs.Roles.{begins_at_low};
 ghost use Rattle.ct_node.specs.Pages.{node_in, header_in, page_text};
@@ -238,6 +238,16 @@ impl Node {
             return true;
         };
         high.cmp_pair(self.key_len, pair).is_gt()
+    }
+
+    /// Whether its low bound is below a pair.
+    pub fn begins_below(&self, pair: &Pair) -> bool
+        ensures { result ≡ begins_below self.now.low pair.now }
+    {
+        let Some(low) = self.low else {
+            return true;
+        };
+        low.cmp_pair(self.key_len, pair).is_lt()
     }
 
     /// Whether an inner node begins at its low bound, or at zeros where that is open. So it has an
