@@ -4,6 +4,7 @@ ghost use Rattle.std.specs.Prelude.{◌≡◌, ◌==◌, ◌&&◌, IsTrue, false
 ghost use Rattle.ct_node.specs.Turns.{OnBusy, CausedTurn};
 ghost use Rattle.ct_tree_laws.specs.Stands.{Stands, Stepped, KeepsKeys};
 ghost use Rattle.ct_tree.specs.Answers.{is_done, IsInTheWay, IsPutting, IsTaking, IsFinding, IsSearching, answer_with, is_for};
+ghost use Rattle.ct_tree.specs.Rules.{IsTurned, leads_to};
 
 use ct_disk::Turn;
 use ct_node::{Node, Nodes, Pair, Place};
@@ -25,6 +26,7 @@ pub(crate) fn is_done(turn: &Turn<()>) -> bool
 pub(crate) fn start<N: Nodes>(walk: &Walk, nodes: &mut N) -> (Stage, Turn<()>)
     requires { Stands walk.now Stage.Start (N.world nodes.old) }
     ensures stepped { Stepped walk.now result.0 (N.world nodes.old) (N.world nodes.new) }
+    ensures rule { IsTurned result.1 walk.now (N.world nodes.old) (N.world nodes.new) (N.left nodes.old) (N.left nodes.new) Stage.Start result.0 }
     ensures keys { KeepsKeys (N.world nodes.old) (N.world nodes.new) }
     ensures going { is_done result.1 ≡ false }
     ensures putting { IsPutting result.0 }
@@ -52,6 +54,7 @@ pub(crate) fn descend<N: Nodes>(
 ) -> (Stage, Turn<()>)
     requires { Stands walk.now (Stage.Down page) (N.world nodes.old) }
     ensures stepped { Stepped walk.now result.0 (N.world nodes.old) (N.world nodes.new) }
+    ensures rule { IsTurned result.1 walk.now (N.world nodes.old) (N.world nodes.new) (N.left nodes.old) (N.left nodes.new) (Stage.Down page) result.0 }
     ensures keys { KeepsKeys (N.world nodes.old) (N.world nodes.new) }
     ensures going { is_done result.1 ≡ false }
     ensures putting { IsPutting result.0 }
@@ -66,7 +69,11 @@ pub(crate) fn descend<N: Nodes>(
     if !is_done(&seen) {
         return (Stage::Down { page }, seen);
     }
-    match node.next_place(&walk.target) {
+    let place = node.next_place(&walk.target);
+    if leads_to(place, page) {
+        return (Stage::Down { page }, Turn::Refused(nodes.bad(page)));
+    }
+    match place {
         Place::Right(right) => return (Stage::Down { page: right }, Turn::More),
         Place::Down(below) => return (Stage::Down { page: below }, Turn::More),
         Place::Here(_) => return (Stage::Leaf { page }, Turn::More),
@@ -79,10 +86,23 @@ pub(crate) fn descend<N: Nodes>(
     }
 }
 
+/// Whether a walk goes on to this page.
+pub(crate) fn leads_to(place: Place, page: u64) -> bool
+    ensures { result ≡ leads_to page place }
+{
+    match place {
+        Place::Right(right) => return right == page,
+        Place::Down(below) => return below == page,
+        Place::Here(_) => return false,
+        Place::End => return false,
+    }
+}
+
 /// Makes the leaf that was found the operation's own.
 pub(crate) fn own_leaf<N: Nodes>(walk: &Walk, nodes: &mut N, page: u64) -> (Stage, Turn<()>)
     requires { Stands walk.now (Stage.Leaf page) (N.world nodes.old) }
     ensures stepped { Stepped walk.now result.0 (N.world nodes.old) (N.world nodes.new) }
+    ensures rule { IsTurned result.1 walk.now (N.world nodes.old) (N.world nodes.new) (N.left nodes.old) (N.left nodes.new) (Stage.Leaf page) result.0 }
     ensures keys { KeepsKeys (N.world nodes.old) (N.world nodes.new) }
     ensures going { is_done result.1 ≡ false }
     ensures putting { IsPutting result.0 }
@@ -115,6 +135,7 @@ pub(crate) fn find_leaf<N: Nodes>(
     requires stands { Stands walk.now stage (N.world nodes.old) }
     requires finding { IsFinding stage }
     ensures stepped { Stepped walk.now result.0 (N.world nodes.old) (N.world nodes.new) }
+    ensures rule { IsTurned result.1 walk.now (N.world nodes.old) (N.world nodes.new) (N.left nodes.old) (N.left nodes.new) stage result.0 }
     ensures keys { KeepsKeys (N.world nodes.old) (N.world nodes.new) }
     ensures going { is_done result.1 ≡ false }
     ensures taking { IsTaking result.0 }

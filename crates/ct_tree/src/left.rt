@@ -7,8 +7,9 @@ ghost use Rattle.ct_node.specs.Places.{next_place};
 ghost use Rattle.ct_node.specs.Turns.{OnBusy, CausedTurn};
 ghost use Rattle.ct_tree_laws.specs.Stands.{Stands, Stepped, KeepsKeys};
 ghost use Rattle.ct_tree.specs.Answers.{is_done, TellsFound, IsInTheWay, IsSearchingLeft, found_left};
+ghost use Rattle.ct_tree.specs.Rules.{IsTurned};
 
-use crate::descent::{descend, is_done, start};
+use crate::descent::{descend, is_done, leads_to, start};
 use ct_disk::Turn;
 use ct_node::{Node, Nodes, Pair, Place, Target};
 use ct_tree_laws::{Stage, Walk, Way};
@@ -26,6 +27,7 @@ pub(crate) fn left_step<N: Nodes>(
     requires stands { Stands walk.now stage (N.world nodes.old) }
     requires open { IsSearchingLeft or_at stage }
     ensures stepped { Stepped walk.now result.0 (N.world nodes.old) (N.world nodes.new) }
+    ensures rule { IsTurned result.1 walk.now (N.world nodes.old) (N.world nodes.new) (N.left nodes.old) (N.left nodes.new) stage result.0 }
     ensures keys { KeepsKeys (N.world nodes.old) (N.world nodes.new) }
     ensures found { TellsFound walk.now (found_left or_at) result.1 result.2 (N.world nodes.old) }
     ensures searching { IsSearchingLeft or_at result.0 }
@@ -69,6 +71,7 @@ fn going(step: (Stage, Turn<()>)) -> (Stage, Turn<()>, Option<Pair>)
 fn share_first<N: Nodes>(walk: &Walk, nodes: &mut N, page: u64) -> (Stage, Turn<()>)
     requires { Stands walk.now (Stage.Leaf page) (N.world nodes.old) }
     ensures stepped { Stepped walk.now result.0 (N.world nodes.old) (N.world nodes.new) }
+    ensures rule { IsTurned result.1 walk.now (N.world nodes.old) (N.world nodes.new) (N.left nodes.old) (N.left nodes.new) (Stage.Leaf page) result.0 }
     ensures keys { KeepsKeys (N.world nodes.old) (N.world nodes.new) }
     ensures going { is_done result.1 ≡ false }
     ensures searching { (or_at : _) → IsSearchingLeft or_at result.0 }
@@ -96,6 +99,7 @@ fn look_first<N: Nodes>(
 ) -> (Stage, Turn<()>, Option<Pair>)
     requires { Stands walk.now (Stage.SharedLeft page) (N.world nodes.old) }
     ensures stepped { Stepped walk.now result.0 (N.world nodes.old) (N.world nodes.new) }
+    ensures rule { IsTurned result.1 walk.now (N.world nodes.old) (N.world nodes.new) (N.left nodes.old) (N.left nodes.new) (Stage.SharedLeft page) result.0 }
     ensures keys { KeepsKeys (N.world nodes.old) (N.world nodes.new) }
     ensures found { TellsFound walk.now (found_left or_at) result.1 result.2 (N.world nodes.old) }
     ensures searching { IsSearchingLeft or_at result.0 }
@@ -137,6 +141,7 @@ fn go_left<N: Nodes>(
 ) -> (Stage, Turn<()>, Option<Pair>)
     requires { Stands walk.now (Stage.Left low or_at way) (N.world nodes.old) }
     ensures stepped { Stepped walk.now result.0 (N.world nodes.old) (N.world nodes.new) }
+    ensures rule { IsTurned result.1 walk.now (N.world nodes.old) (N.world nodes.new) (N.left nodes.old) (N.left nodes.new) (Stage.Left low or_at way) result.0 }
     ensures keys { KeepsKeys (N.world nodes.old) (N.world nodes.new) }
     ensures found { TellsFound walk.now (found_left or_at) result.1 result.2 (N.world nodes.old) }
     ensures searching { IsSearchingLeft or_at result.0 }
@@ -156,6 +161,7 @@ fn go_left<N: Nodes>(
 fn start_left<N: Nodes>(walk: &Walk, or_at: bool, nodes: &mut N, low: Pair) -> (Stage, Turn<()>)
     requires { Stands walk.now (Stage.Left low or_at Way.Start) (N.world nodes.old) }
     ensures stepped { Stepped walk.now result.0 (N.world nodes.old) (N.world nodes.new) }
+    ensures rule { IsTurned result.1 walk.now (N.world nodes.old) (N.world nodes.new) (N.left nodes.old) (N.left nodes.new) (Stage.Left low or_at Way.Start) result.0 }
     ensures keys { KeepsKeys (N.world nodes.old) (N.world nodes.new) }
     ensures going { is_done result.1 ≡ false }
     ensures searching { IsSearchingLeft or_at result.0 }
@@ -201,6 +207,7 @@ fn descend_left<N: Nodes>(
 ) -> (Stage, Turn<()>)
     requires { Stands walk.now (Stage.Left low or_at (Way.Down page)) (N.world nodes.old) }
     ensures stepped { Stepped walk.now result.0 (N.world nodes.old) (N.world nodes.new) }
+    ensures rule { IsTurned result.1 walk.now (N.world nodes.old) (N.world nodes.new) (N.left nodes.old) (N.left nodes.new) (Stage.Left low or_at (Way.Down page)) result.0 }
     ensures keys { KeepsKeys (N.world nodes.old) (N.world nodes.new) }
     ensures going { is_done result.1 ≡ false }
     ensures searching { IsSearchingLeft or_at result.0 }
@@ -214,6 +221,13 @@ fn descend_left<N: Nodes>(
         return (Stage::Left { low, or_at, way }, seen);
     }
     let (place, low) = next_before(node, low);
+    if leads_to(place, page) {
+        let way = Way::Down { page };
+        return (
+            Stage::Left { low, or_at, way },
+            Turn::Refused(nodes.bad(page)),
+        );
+    }
     match place {
         Place::Right(right) => {
             let way = Way::Down { page: right };
@@ -251,6 +265,7 @@ fn share_left<N: Nodes>(
 ) -> (Stage, Turn<()>)
     requires { Stands walk.now (Stage.Left low or_at (Way.Leaf page)) (N.world nodes.old) }
     ensures stepped { Stepped walk.now result.0 (N.world nodes.old) (N.world nodes.new) }
+    ensures rule { IsTurned result.1 walk.now (N.world nodes.old) (N.world nodes.new) (N.left nodes.old) (N.left nodes.new) (Stage.Left low or_at (Way.Leaf page)) result.0 }
     ensures keys { KeepsKeys (N.world nodes.old) (N.world nodes.new) }
     ensures going { is_done result.1 ≡ false }
     ensures searching { IsSearchingLeft or_at result.0 }
@@ -280,6 +295,7 @@ fn look_left<N: Nodes>(
 ) -> (Stage, Turn<()>, Option<Pair>)
     requires { Stands walk.now (Stage.Left low or_at (Way.Shared page)) (N.world nodes.old) }
     ensures stepped { Stepped walk.now result.0 (N.world nodes.old) (N.world nodes.new) }
+    ensures rule { IsTurned result.1 walk.now (N.world nodes.old) (N.world nodes.new) (N.left nodes.old) (N.left nodes.new) (Stage.Left low or_at (Way.Shared page)) result.0 }
     ensures keys { KeepsKeys (N.world nodes.old) (N.world nodes.new) }
     ensures found { TellsFound walk.now (found_left or_at) result.1 result.2 (N.world nodes.old) }
     ensures searching { IsSearchingLeft or_at result.0 }
@@ -305,6 +321,10 @@ fn look_left<N: Nodes>(
     }
     match node.low(alloc) {
         Some(next) => {
+            if !node.begins_below(&low) {
+                let fault = nodes.bad(page);
+                return (Stage::Left { low, or_at, way }, Turn::Refused(fault), None);
+            }
             let on = Stage::Left {
                 low: next,
                 or_at,

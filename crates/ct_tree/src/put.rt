@@ -3,11 +3,16 @@
 ghost use Rattle.std.specs.Prelude.{◌≡◌, ◌≤◌, ◌==◌, ◌&&◌, IsTrue, false, true, length};
 ghost use Rattle.ct_node.specs.Places.{is_past};
 ghost use Rattle.ct_node.specs.Worlds.{Holds, page_at};
-ghost use Rattle.ct_node.specs.Turns.{OnDone, OnBusy, CausedTurn};
+ghost use Rattle.ct_node.specs.Turns.{OnDone, OnBusy, CausedTurn, OnMore};
 ghost use Rattle.ct_tree_laws.specs.Stands.{Stands, Stepped, HasNone};
 ghost use Rattle.ct_tree.specs.Answers.{IsPair, PutsKeys, IsInTheWay, IsPutting, GoesOn, BearsPut};
+ghost use Rattle.ct_tree.specs.Rules.{IsTurned};
+ghost use Rattle.ct_tree.specs.Moves.{spot_of, moves_after};
+ghost use Rattle.ct_tree.specs.Counted.{IsCounted};
+ghost use Rattle.ct_tree.specs.Ends.{left_of, IsLess};
 
 use crate::descent::{descend, is_done, is_for, own_leaf, start};
+use crate::moves::{circle_at, moves_after, spot_of};
 use crate::post::post;
 use crate::split::{allocate, cut_left, write_right};
 use ct_disk::Turn;
@@ -23,6 +28,8 @@ pub struct Put {
     pub walk: Walk,
     pub mark: Mark,
     pub stage: Stage,
+    /// How many moves to another page the walk that is under way has made.
+    pub moves: u64,
     node: Node,
 }
 
@@ -34,12 +41,14 @@ impl Put {
         ensures walk { result.walk ≡ record { op = op; at = at; target = target } }
         ensures mark { result.mark ≡ mark }
         ensures stage { result.stage ≡ Stage.Start }
+        ensures moves { result.moves ≡ 0 }
     {
         Put {
             alloc,
             walk: Walk { op, at, target },
             mark,
             stage: Stage::Start,
+            moves: 0,
             node: Node::new(0, 0, true, 1),
         }
     }
@@ -51,9 +60,14 @@ impl Put {
         requires pair { IsPair self.old.walk.target }
         requires open { IsPutting self.old.stage }
         requires mark { N.allows nodes.old self.old.walk.op self.old.mark }
+        requires counted { IsCounted self.old.stage self.old.moves (N.world nodes.old) }
         ensures walk { self.new.walk ≡ self.old.walk }
         ensures mark { self.new.mark ≡ self.old.mark }
         ensures stepped { Stepped self.old.walk self.new.stage (N.world nodes.old) (N.world nodes.new) }
+        ensures rule { IsTurned result self.old.walk (N.world nodes.old) (N.world nodes.new) (N.left nodes.old) (N.left nodes.new) self.old.stage self.new.stage }
+        ensures counted { IsCounted self.new.stage self.new.moves (N.world nodes.new) }
+        ensures moves { self.new.moves ≡ moves_after (spot_of self.old.stage) (spot_of self.new.stage) self.old.moves }
+        ensures left { OnMore result (IsLess (left_of self.new.stage self.new.moves (N.world nodes.new) (N.left nodes.new)) (left_of self.old.stage self.old.moves (N.world nodes.old) (N.left nodes.old))) }
         ensures keys { PutsKeys self.old.walk result (N.world nodes.old) (N.world nodes.new) }
         ensures goes { GoesOn result self.new.stage }
         ensures given_back { OnDone result (λ _. IsTrue (N.world nodes.old).founded → HasNone self.old.walk.op (N.world nodes.new)) }
@@ -61,6 +75,11 @@ impl Put {
         ensures busy { OnBusy result (IsInTheWay (N.flushes nodes.old) (N.world nodes.old) self.old.walk.op) }
         ensures cause { CausedTurn result (N.faults nodes.old) (N.faults nodes.new) (N.halted nodes.old) (N.halted nodes.new) }
     {
+        let from = spot_of(&self.stage);
+        let pages = nodes.pages();
+        if let Some(page) = circle_at(from, self.moves, pages) {
+            return Turn::Refused(nodes.bad(page));
+        }
         let stage = replace(&mut self.stage, Stage::Ended);
         let step = put_step(
             self.alloc,
@@ -71,6 +90,7 @@ impl Put {
             &mut self.node,
         );
         self.stage = step.0;
+        self.moves = moves_after(from, spot_of(&self.stage), self.moves, pages);
         step.1
     }
 }
@@ -89,6 +109,7 @@ fn put_step<N: Nodes>(
     requires open { IsPutting stage }
     requires mark { N.allows nodes.old walk.now.op mark }
     ensures stepped { Stepped walk.now result.0 (N.world nodes.old) (N.world nodes.new) }
+    ensures rule { IsTurned result.1 walk.now (N.world nodes.old) (N.world nodes.new) (N.left nodes.old) (N.left nodes.new) stage result.0 }
     ensures keys { PutsKeys walk.now result.1 (N.world nodes.old) (N.world nodes.new) }
     ensures goes { GoesOn result.1 result.0 }
     ensures bears { BearsPut walk.now mark result.1 (N.world nodes.old) (N.marked nodes.old) (N.marked nodes.new) }
@@ -129,6 +150,7 @@ pub(crate) fn put_held<N: Nodes>(
     requires pair { IsPair walk.now.target }
     requires mark { N.allows nodes.old walk.now.op mark }
     ensures stepped { Stepped walk.now result.0 (N.world nodes.old) (N.world nodes.new) }
+    ensures rule { IsTurned result.1 walk.now (N.world nodes.old) (N.world nodes.new) (N.left nodes.old) (N.left nodes.new) (Stage.Held page) result.0 }
     ensures keys { PutsKeys walk.now result.1 (N.world nodes.old) (N.world nodes.new) }
     ensures goes { GoesOn result.1 result.0 }
     ensures bears { BearsPut walk.now mark result.1 (N.world nodes.old) (N.marked nodes.old) (N.marked nodes.new) }
@@ -164,6 +186,7 @@ fn put_here<N: Nodes>(
     requires seen { page_at (N.world nodes.old) page ≡ Holds node.old }
     requires within { is_past node.old.high walk.now.target ≡ false }
     ensures stepped { Stepped walk.now result.0 (N.world nodes.old) (N.world nodes.new) }
+    ensures rule { IsTurned result.1 walk.now (N.world nodes.old) (N.world nodes.new) (N.left nodes.old) (N.left nodes.new) (Stage.Held page) result.0 }
     ensures keys { PutsKeys walk.now result.1 (N.world nodes.old) (N.world nodes.new) }
     ensures goes { GoesOn result.1 result.0 }
     ensures bears { BearsPut walk.now mark result.1 (N.world nodes.old) (N.marked nodes.old) (N.marked nodes.new) }

@@ -2,12 +2,17 @@
 //! the right.
 
 ghost use Rattle.std.specs.Prelude.{◌≡◌, ◌≤◌, ◌<◌, IsTrue, false, true, length};
-ghost use Rattle.ct_node.specs.Turns.{OnBusy, CausedTurn};
+ghost use Rattle.ct_node.specs.Turns.{OnBusy, CausedTurn, OnMore};
 ghost use Rattle.ct_tree_laws.specs.Stands.{Stands, Stepped, KeepsKeys, HasNone};
 ghost use Rattle.ct_tree.specs.Answers.{is_done, TellsFound, IsFound, IsInTheWay, IsSearching, IsSeeking, IsSearchingBy, found_right, found_by};
+ghost use Rattle.ct_tree.specs.Rules.{IsTurned, GivesWay};
+ghost use Rattle.ct_tree.specs.Moves.{spot_of, moves_after};
+ghost use Rattle.ct_tree.specs.Counted.{IsCounted};
+ghost use Rattle.ct_tree.specs.Ends.{left_of, IsLess};
 
 use crate::descent::{answer_with, descend, is_done, start};
 use crate::left::left_step;
+use crate::moves::{circle_at, moves_after, spot_of};
 use crate::seek::Seek;
 use ct_disk::Turn;
 use ct_node::{Node, Nodes, Pair, Place, Root, Target};
@@ -22,6 +27,8 @@ pub struct Search {
     pub walk: Walk,
     pub seek: Seek,
     pub stage: Stage,
+    /// How many moves to another page the walk that is under way has made.
+    pub moves: u64,
     node: Node,
 }
 
@@ -32,12 +39,14 @@ impl Search {
         ensures walk { result.walk ≡ record { op = op; at = at; target = target } }
         ensures seek { result.seek ≡ seek }
         ensures stage { result.stage ≡ Stage.Start }
+        ensures moves { result.moves ≡ 0 }
     {
         Search {
             alloc,
             walk: Walk { op, at, target },
             seek,
             stage: Stage::Start,
+            moves: 0,
             node: Node::new(0, 0, true, 1),
         }
     }
@@ -48,9 +57,14 @@ impl Search {
     pub fn turn<N: Nodes>(&mut self, nodes: &mut N) -> Turn<Option<Pair>>
         requires stands { Stands self.old.walk self.old.stage (N.world nodes.old) }
         requires open { IsSearchingBy self.old.seek self.old.stage }
+        requires counted { IsCounted self.old.stage self.old.moves (N.world nodes.old) }
         ensures walk { self.new.walk ≡ self.old.walk }
         ensures seek { self.new.seek ≡ self.old.seek }
         ensures stepped { Stepped self.old.walk self.new.stage (N.world nodes.old) (N.world nodes.new) }
+        ensures rule { IsTurned result self.old.walk (N.world nodes.old) (N.world nodes.new) (N.left nodes.old) (N.left nodes.new) self.old.stage self.new.stage }
+        ensures counted { IsCounted self.new.stage self.new.moves (N.world nodes.new) }
+        ensures moves { self.new.moves ≡ moves_after (spot_of self.old.stage) (spot_of self.new.stage) self.old.moves }
+        ensures left { OnMore result (IsLess (left_of self.new.stage self.new.moves (N.world nodes.new) (N.left nodes.new)) (left_of self.old.stage self.old.moves (N.world nodes.old) (N.left nodes.old))) }
         ensures keys { KeepsKeys (N.world nodes.old) (N.world nodes.new) }
         ensures found { IsFound self.old.walk (found_by self.old.seek) result (N.world nodes.old) }
         ensures open { IsSearchingBy self.new.seek self.new.stage }
@@ -59,6 +73,11 @@ impl Search {
         ensures given_back { OnBusy result (λ _. HasNone self.old.walk.op (N.world nodes.new)) }
         ensures cause { CausedTurn result (N.faults nodes.old) (N.faults nodes.new) (N.halted nodes.old) (N.halted nodes.new) }
     {
+        let from = spot_of(&self.stage);
+        let pages = nodes.pages();
+        if let Some(page) = circle_at(from, self.moves, pages) {
+            return Turn::Refused(nodes.bad(page));
+        }
         let stage = replace(&mut self.stage, Stage::Ended);
         let step = seek_step(
             self.alloc,
@@ -69,6 +88,7 @@ impl Search {
             &mut self.node,
         );
         self.stage = give_way(&self.walk, self.seek, step.0, &step.1, nodes);
+        self.moves = moves_after(from, spot_of(&self.stage), self.moves, pages);
         answer_with(step.1, step.2)
     }
 
@@ -79,6 +99,7 @@ impl Search {
         ensures walk { self.new.walk ≡ self.old.walk }
         ensures seek { self.new.seek ≡ self.old.seek }
         ensures ended { self.new.stage ≡ Stage.Ended }
+        ensures moves { self.new.moves ≡ 0 }
         ensures stepped { Stepped self.old.walk self.new.stage (N.world nodes.old) (N.world nodes.new) }
         ensures keys { KeepsKeys (N.world nodes.old) (N.world nodes.new) }
         ensures given_back { HasNone self.old.walk.op (N.world nodes.new) }
@@ -87,6 +108,7 @@ impl Search {
     {
         nodes.free_all(self.walk.op);
         self.stage = Stage::Ended;
+        self.moves = 0;
     }
 }
 
@@ -102,6 +124,7 @@ fn seek_step<N: Nodes>(
     requires stands { Stands walk.now stage (N.world nodes.old) }
     requires open { IsSearchingBy seek stage }
     ensures stepped { Stepped walk.now result.0 (N.world nodes.old) (N.world nodes.new) }
+    ensures rule { IsTurned result.1 walk.now (N.world nodes.old) (N.world nodes.new) (N.left nodes.old) (N.left nodes.new) stage result.0 }
     ensures keys { KeepsKeys (N.world nodes.old) (N.world nodes.new) }
     ensures found { TellsFound walk.now (found_by seek) result.1 result.2 (N.world nodes.old) }
     ensures searching { IsSearchingBy seek result.0 }
@@ -126,6 +149,7 @@ fn give_way<N: Nodes>(walk: &Walk, seek: Seek, to: Stage, turn: &Turn<()>, nodes
     ensures searching { IsSearchingBy seek result }
     ensures given_back { OnBusy turn.now (λ _. HasNone walk.now.op (N.world nodes.new)) }
     ensures bears { N.marked nodes.new ≡ N.marked nodes.old }
+    ensures gives_way { GivesWay turn.now (N.world nodes.old) (N.world nodes.new) (N.left nodes.old) (N.left nodes.new) to result }
     ensures faults { N.faults nodes.new ≡ N.faults nodes.old }
     ensures halted { N.halted nodes.new ≡ N.halted nodes.old }
 {
@@ -152,6 +176,7 @@ fn search_step<N: Nodes>(
     requires stands { Stands walk.now stage (N.world nodes.old) }
     requires open { IsSearching above stage }
     ensures stepped { Stepped walk.now result.0 (N.world nodes.old) (N.world nodes.new) }
+    ensures rule { IsTurned result.1 walk.now (N.world nodes.old) (N.world nodes.new) (N.left nodes.old) (N.left nodes.new) stage result.0 }
     ensures keys { KeepsKeys (N.world nodes.old) (N.world nodes.new) }
     ensures found { TellsFound walk.now (found_right above) result.1 result.2 (N.world nodes.old) }
     ensures searching { IsSearching above result.0 }
@@ -177,6 +202,7 @@ fn find_shared<N: Nodes>(
     requires stands { Stands walk.now stage (N.world nodes.old) }
     requires open { IsSeeking above stage }
     ensures stepped { Stepped walk.now result.0 (N.world nodes.old) (N.world nodes.new) }
+    ensures rule { IsTurned result.1 walk.now (N.world nodes.old) (N.world nodes.new) (N.left nodes.old) (N.left nodes.new) stage result.0 }
     ensures keys { KeepsKeys (N.world nodes.old) (N.world nodes.new) }
     ensures going { is_done result.1 ≡ false }
     ensures searching { IsSearching above result.0 }
@@ -217,6 +243,7 @@ pub(crate) fn share_leaf<N: Nodes>(
 ) -> (Stage, Turn<()>)
     requires { Stands walk.now (Stage.Leaf page) (N.world nodes.old) }
     ensures stepped { Stepped walk.now result.0 (N.world nodes.old) (N.world nodes.new) }
+    ensures rule { IsTurned result.1 walk.now (N.world nodes.old) (N.world nodes.new) (N.left nodes.old) (N.left nodes.new) (Stage.Leaf page) result.0 }
     ensures keys { KeepsKeys (N.world nodes.old) (N.world nodes.new) }
     ensures going { is_done result.1 ≡ false }
     ensures searching { IsSearching above result.0 }
@@ -241,6 +268,7 @@ pub(crate) fn share_next<N: Nodes>(
 ) -> (Stage, Turn<()>)
     requires { Stands walk.now (Stage.Share page above) (N.world nodes.old) }
     ensures stepped { Stepped walk.now result.0 (N.world nodes.old) (N.world nodes.new) }
+    ensures rule { IsTurned result.1 walk.now (N.world nodes.old) (N.world nodes.new) (N.left nodes.old) (N.left nodes.new) (Stage.Share page above) result.0 }
     ensures keys { KeepsKeys (N.world nodes.old) (N.world nodes.new) }
     ensures going { is_done result.1 ≡ false }
     ensures searching { IsSearching above result.0 }
@@ -268,6 +296,7 @@ pub(crate) fn look_shared<N: Nodes>(
 ) -> (Stage, Turn<()>, Option<Pair>)
     requires { Stands walk.now (Stage.Shared page above) (N.world nodes.old) }
     ensures stepped { Stepped walk.now result.0 (N.world nodes.old) (N.world nodes.new) }
+    ensures rule { IsTurned result.1 walk.now (N.world nodes.old) (N.world nodes.new) (N.left nodes.old) (N.left nodes.new) (Stage.Shared page above) result.0 }
     ensures keys { KeepsKeys (N.world nodes.old) (N.world nodes.new) }
     ensures found { TellsFound walk.now (found_right above) result.1 result.2 (N.world nodes.old) }
     ensures searching { IsSearching above result.0 }

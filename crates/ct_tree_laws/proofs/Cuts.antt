@@ -21,9 +21,9 @@ use Rattle.ct_node.proofs.HalfLemmas.{middle_within, IsNode-upper_half, IsNode-l
 use Rattle.ct_node.proofs.Searches.{slice_get-at}
 use Rattle.ct_tree_laws.specs.Trees.{Tree, IsOf, IsAt, Link, link_of, link_in, Rises, IsInner, IsInRole, IsEven, IsTree, IsApart, IsAmong, Linked, IsLower, IsClear, HasPassed, pairs_in_page, pairs_at, joined}
 use Rattle.ct_tree_laws.proofs.Pages.{page_within, page_at-edited, page_at-edited_other, stays_linked, is_fresh-edited, has_fresh-edited, is_fresh_from, is_linked-edited, IsApart-edited}
-use Rattle.ct_tree_laws.specs.Stands.{KeepsLevels}
+use Rattle.ct_tree_laws.specs.Stands.{KeepsLevels, KeepsAt}
 use Rattle.ct_tree_laws.proofs.Levels.{KeepsFirst-lower, KeepsLevels-edited, IsEven-kept, IsEven-lower, IsEven-upper, level_of_upper}
-use Rattle.ct_tree_laws.proofs.Kept.{KeepsAt, IsEvenAt, IsReached, IsInner-kept, IsInRole-kept}
+use Rattle.ct_tree_laws.proofs.Kept.{IsEvenAt, IsReached, IsInner-kept, IsInRole-kept}
 use Rattle.ct_tree_laws.proofs.Steps.{IsStep}
 use Rattle.ct_tree_laws.proofs.Chains.{one_node, link_to, Roles}
 use Rattle.ct_tree_laws.proofs.Edits.{not_latched_held, not_theirs_held}

@@ -9,12 +9,8 @@ use Rattle.ct_definitions.specs.Pairs.{Pair}
 use Rattle.ct_node.specs.Nodes.{Entry, NodeValue, IsNode}
 use Rattle.ct_node.specs.Worlds.{World, Defines, Holds, DefinitionValue, page_at, IsLevel, is_fresh}
 use Rattle.ct_tree_laws.specs.Trees.{Tree, IsOf, IsAt, Link, link_by, link_of, link_in, Rises, IsInner, IsInRole, IsEven, Linked, IsTree}
-use Rattle.ct_tree_laws.specs.Stands.{KeepsLevels}
+use Rattle.ct_tree_laws.specs.Stands.{KeepsLevels, KeepsAt}
 use Rattle.ct_tree_laws.proofs.Levels.{IsEven-kept}
-
--- each node of a tree that a link reaches keeps its place
-abbrev pub KeepsAt : World → World → Type 0
-KeepsAt w now = (t : Tree) (leaf : Bool) (low : Option Pair) (page : ℕ) → IsAt w t leaf low page → IsAt now t leaf low page
 
 -- definition pages stay
 abbrev pub KeepsDefinitions : World → World → Type 0

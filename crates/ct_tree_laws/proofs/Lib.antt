@@ -2,6 +2,7 @@ pub mod Holders
 pub mod Taking
 pub mod Pages
 pub mod Levels
+pub mod Capacities
 pub mod EvenLevels
 pub mod Kept
 pub mod Chains

@@ -35,7 +35,7 @@ module _ (op : ℕ) (w now : World) (step : IsStep op w now) (other : ℕ) (diff
   full : (page : ℕ) (node : NodeValue) → IsFull w t other target page node → IsFull now t other target page node
   full page node is =
       let kept = step.held other page node differ (has_latch_from_own other page w is.owned) (record { is = is.is; linked = is.linked }) in
-      record { is = kept.is; owned = step.own other page differ ∙ is.owned; linked = kept.linked; of = is.of; leaf = is.leaf; enough = is.enough }
+      record { is = kept.is; owned = step.own other page differ ∙ is.owned; linked = kept.linked; of = is.of; leaf = is.leaf; enough = is.enough; full = is.full }
 
   reached : (page : ℕ) (above : Bool) → IsReachedBySearch w t other above target page → IsReachedBySearch now t other above target page
   reached page above is = (is.0, step.at t true is.0 page is.1, step.passed other t above target is.0 differ is.2)
@@ -94,10 +94,10 @@ module _ (op : ℕ) (w now : World) (step : IsStep op w now) (other : ℕ) (diff
   rise_kept separator (rise.Down page above) is = (tidy is.0, (is.1.0, is.1.1, step.at t is.1.0 is.1.1 page is.1.2, is.1.3), above_if separator page above is.2, none is.3)
   rise_kept separator (rise.Above page) is = (tidy is.0, above_kept separator separator.child page is.1, none is.2)
   rise_kept separator (rise.Held page next) is = (tidy is.0, above_kept separator separator.child page is.1, step.own other page differ ∙ is.2, only page is.3, half separator page next is.4)
-  rise_kept separator (rise.Full page) is = (tidy is.0, (is.1.0, (chosen separator page is.1.0 is.1.1.0, is.1.1.1)), only page is.2)
-  rise_kept separator (rise.Fresh page right) is = (tidy is.0, (is.1.0, (chosen separator page is.1.0 is.1.1.0, is.1.1.1)), step.fresh other right differ ∙ is.2, only page is.3)
-  rise_kept separator (rise.Split page right) is = (tidy is.0, (is.1.0, (chosen separator page is.1.0 is.1.1.0, is.1.1.1)), step.fresh other right differ ∙ is.2, step.own other right differ ∙ is.3, both page right is.4)
-  rise_kept separator (rise.Cut page right) is = (tidy_but right is.0, (is.1.0, (chosen separator page is.1.0 is.1.1.0, is.1.1.1), step.blank other right differ is.2 ∙ is.1.2), step.fresh other right differ ∙ is.2, step.own other right differ ∙ is.3, both page right is.4)
+  rise_kept separator (rise.Full page) is = (tidy is.0, (is.1.0, (chosen separator page is.1.0 is.1.1.0, is.1.1.1, is.1.1.2)), only page is.2)
+  rise_kept separator (rise.Fresh page right) is = (tidy is.0, (is.1.0, (chosen separator page is.1.0 is.1.1.0, is.1.1.1, is.1.1.2)), step.fresh other right differ ∙ is.2, only page is.3)
+  rise_kept separator (rise.Split page right) is = (tidy is.0, (is.1.0, (chosen separator page is.1.0 is.1.1.0, is.1.1.1, is.1.1.2)), step.fresh other right differ ∙ is.2, step.own other right differ ∙ is.3, both page right is.4)
+  rise_kept separator (rise.Cut page right) is = (tidy_but right is.0, (is.1.0, (chosen separator page is.1.0 is.1.1.0, is.1.1.1, is.1.1.2), step.blank other right differ is.2 ∙ is.1.2), step.fresh other right differ ∙ is.2, step.own other right differ ∙ is.3, both page right is.4)
   rise_kept separator rise.Again is = (tidy is.0, none is.1)
   rise_kept separator rise.Named is = (tidy is.0, (is.1.0, definition is.1.0 is.1.1))
   rise_kept separator rise.Grow is = (tidy is.0, root separator is.1)

@@ -9,10 +9,10 @@ use Rattle.ct_node.specs.Nodes.{NodeValue}
 use Rattle.ct_node.specs.Worlds.{World, Blank, Defines, Holds, DefinitionValue, page_at, IsLevel, has_latch, has_own, has_fresh, is_fresh, rooted, rooted_page, with_root, IsTidy}
 use Rattle.ct_tree_laws.specs.declared.rise.Separator.{Separator}
 use Rattle.ct_tree_laws.specs.Trees.{Tree, IsOf, IsInRole, IsEven, IsTree, IsApart}
-use Rattle.ct_tree_laws.specs.Stands.{IsCrown, IsTidyBut, KeepsKeys, KeepsLevels}
+use Rattle.ct_tree_laws.specs.Stands.{IsCrown, IsTidyBut, KeepsKeys, KeepsLevels, KeepsAt}
 use Rattle.ct_tree_laws.proofs.Pages.{stays_linked, is_fresh-edited, has_fresh-edited, is_linked-edited, has_fresh_before, is_fresh_before, is_fresh_from, definition_within}
 use Rattle.ct_tree_laws.proofs.Levels.{KeepsLevels-same}
-use Rattle.ct_tree_laws.proofs.Kept.{KeepsAt, KeepsLinks, IsEvenAt, IsReached, IsAlike-same, IsNamed}
+use Rattle.ct_tree_laws.proofs.Kept.{KeepsLinks, IsEvenAt, IsReached, IsAlike-same, IsNamed}
 use Rattle.ct_tree_laws.proofs.Steps.{LeavesLinks}
 use Rattle.ct_tree_laws.proofs.Chains.{one_node}
 use Rattle.ct_tree_laws.proofs.Keys.{leaf_at, one_tree, one_root, same_root, Chain-same}

@@ -29,24 +29,25 @@ use Rattle.ct_tree_laws.proofs.Cuts.{IsStep-cut, low-upper, high-lower}
 use Rattle.ct_tree_laws.proofs.Keys.{KeepsKeys-with_fresh, KeepsKeys-right, KeepsKeys-cut}
 use Rattle.ct_tree_laws.proofs.Walking.{onward_of, past_low}
 use Rattle.ct_tree_laws.proofs.Turns.{not_founded}
+use Rattle.ct_tree_laws.proofs.Capacities.{capacity_four}
 use Rattle.ct_tree_laws.proofs.PutTurns.{stepped_by, freed, free_step, free_keys}
 use Rattle.ct_tree_laws.proofs.PostingZeros.{IsMiddle}
 use Rattle.ct_tree_laws.proofs.PostingTurns.{separator_after, owned_step}
 
 -- the node that is to be split, as the operation has it
 pub crowded_held : (walk : Walk) (from : Stage) (s : Separator) (page : ℕ) (node : NodeValue) (w : World) (here : StandsIn walk from w) → IsCrowded w here.tree walk.op s page node → IsHeld walk.op page node w
-crowded_held walk from s page node w here (chosen, enough) =
+crowded_held walk from s page node w here (chosen, enough, full) =
     record { is = chosen.is; owned = chosen.owned; linked = chosen.linked; onward = onward_of w here.tree node here.apart (here.is.roles page node chosen.is chosen.of chosen.linked) }
 
 crowded_role : (walk : Walk) (from : Stage) (s : Separator) (page : ℕ) (node : NodeValue) (w : World) (here : StandsIn walk from w) → IsCrowded w here.tree walk.op s page node → IsInRole w here.tree node
-crowded_role walk from s page node w here (chosen, enough) = here.is.roles page node chosen.is chosen.of chosen.linked
+crowded_role walk from s page node w here (chosen, enough, full) = here.is.roles page node chosen.is chosen.of chosen.linked
 
 crowded_seen : (walk : Walk) (from : Stage) (s : Separator) (page : ℕ) (known node : NodeValue) (w : World) (here : StandsIn walk from w) → IsCrowded w here.tree walk.op s page known → page_at w page ≡ Holds node → IsCrowded w here.tree walk.op s page node
 crowded_seen walk from s page known node w here crowded is = subst (IsCrowded w here.tree walk.op s page) (sym (one_node w page known node crowded.0.is is)) crowded
 
 -- it stays so where its page stays
 crowded_kept : (w now : World) (t : Tree) (op : ℕ) (s : Separator) (page : ℕ) (node : NodeValue) → page_at now page ≡ page_at w page → has_own op page now ≡ true → is_fresh page now ≡ false → KeepsLevels w now → IsCrowded w t op s page node → IsCrowded now t op s page node
-crowded_kept w now t op s page node same own linked levels (chosen, enough) = (record { is = same ∙ chosen.is; owned = own; linked = linked; of = chosen.of; inner = chosen.inner; within = chosen.within; level = one_above_kept w now page s.child levels chosen.level }, enough)
+crowded_kept w now t op s page node same own linked levels (chosen, enough, full) = (record { is = same ∙ chosen.is; owned = own; linked = linked; of = chosen.of; inner = chosen.inner; within = chosen.within; level = one_above_kept w now page s.child levels chosen.level }, enough, full)
 
 -- a page that is allocated is blank
 pub tidy_allocated : (op : ℕ) (w : World) → IsTidy op w → IsTidy op (with_fresh op w)
@@ -233,6 +234,7 @@ module _ (walk : Walk) (s : Separator) (page right : ℕ) (node : NodeValue) (w 
   left_half low middle inside now step there own linked =
       let enough = crowded.1 in
       let room = role.node_is.room in
+      let four = capacity_four node.key_len false role.node_is.short_key in
       let fits : length node.entries ≤ capacity_of node.key_len false = subst (λ kind. length node.entries ≤ capacity_of node.key_len kind) crowded.0.inner room in
       let long = length-take-le (middle_of node) node.entries (omega arith) in
       let level = one_above_kept w now page s.child (λ n q at. step.levels n q (cut_above_step.levels n q at)) crowded.0.level in (
@@ -247,6 +249,7 @@ module _ (walk : Walk) (s : Separator) (page right : ℕ) (node : NodeValue) (w 
   right_half low middle outside now step there own linked =
       let enough = crowded.1 in
       let room = role.node_is.room in
+      let four = capacity_four node.key_len false role.node_is.short_key in
       let fits : length node.entries ≤ capacity_of node.key_len false = subst (λ kind. length node.entries ≤ capacity_of node.key_len kind) crowded.0.inner room in
       let long = length-drop (middle_of node) node.entries in
       let bound : (lower_half right node).high ≡ Some low = high-lower right node crowded.1 ∙ ap Some middle.is in

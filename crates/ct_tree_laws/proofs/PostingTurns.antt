@@ -1,7 +1,6 @@
 -- The turns that post a separator: the node above is found, made the operation's own, and written.
 use Rattle.std.proofs.Common.{◌≡◌, ℕ, ◌+◌, ◌-◌, ◌*◌, ◌/◌, ◌<◌, ◌≤◌, Bool, true, false, List, ◌∷◌, length, map, is_some, refl, sym, ap, ◌∙◌, arith, subst, ⊎_elim, Option, Some, None, find}
 use Rattle.std.specs.Prelude.{IsTrue, nat_lt}
-use Rattle.std.proofs.Math.Nat.{le-div_iff_mul-le}
 use Rattle.std.proofs.lemmas.Bool.{cases_Bool, false≢true, true≢false, and_parts, or_parts, ltb-false}
 use Rattle.ct_latch.specs.Latches.{bars, with_hold}
 use Rattle.ct_node.specs.declared.root.IndexRow.{IndexRow}
@@ -28,6 +27,7 @@ use Rattle.ct_tree_laws.proofs.Steps.{IsStep, IsStep-next, IsStep-latches, IsSte
 use Rattle.ct_tree_laws.proofs.Keys.{Chain-same, KeepsKeys-latches, leaf_at}
 use Rattle.ct_tree_laws.proofs.Walking.{IsSeen, seen_near, near_right, near_down, last_here, right_at_of, within_last, onward_of, past_beside, right_beside, down_above}
 use Rattle.ct_tree_laws.proofs.Turns.{at_stage, stepped_same, not_founded}
+use Rattle.ct_tree_laws.proofs.Capacities.{full_enough}
 use Rattle.ct_tree_laws.proofs.PutTurns.{stepped_by, freed, free_step, free_keys, freed_none, only_owned, tidy_edited}
 use Rattle.ct_tree_laws.proofs.PostingEdits.{LeavesLinks-posts}
 use Rattle.ct_tree_laws.proofs.PostingZeros.{first_below}
@@ -130,7 +130,7 @@ held_seen walk s page next node w is here =
     (seen_near w walk.at here.tree here.leaves (At s.low) page node here.is (false, above.0, above.1, above.2) is, sym (ap (λ (v : NodeValue). v.leaf) same_node) ∙ above.1.kind)
 
 -- where the separator is not within its bounds, it is to the right
-held_past : (walk : Walk) (s : Separator) (page : ℕ) (next : Option Separator) (node : NodeValue) (w : World) → page_at w page ≡ Holds node → is_within node.low node.high s.low ≡ false → StandsIn walk (stage.Post s (rise.Held page next)) w → is_past node.high (At s.low) ≡ true
+pub held_past : (walk : Walk) (s : Separator) (page : ℕ) (next : Option Separator) (node : NodeValue) (w : World) → page_at w page ≡ Holds node → is_within node.low node.high s.low ≡ false → StandsIn walk (stage.Post s (rise.Held page next)) w → is_past node.high (At s.low) ≡ true
 held_past walk s page next node w is outside here = ⊎_elim
     (λ past. past)
     (λ within. absurd (false≢true (sym outside ∙ within_last node s.low (held_seen walk s page next node w is here).0.low within)))
@@ -150,7 +150,7 @@ held_right walk s page next node w mid now stands is outside same gives = subst 
     )))
 
 -- a half of a split has the separator within its bounds, and room for it
-half_of : (w : World) (t : Tree) (op : ℕ) (s : Separator) (page : ℕ) (next : Option Separator) → is_some next ≡ true → IsHalf w t op s page next → (node : NodeValue) × IsChosen w t op s page node × (length node.entries < capacity_of node.key_len false)
+half_of : (w : World) (t : Tree) (op : ℕ) (s : Separator) (page : ℕ) (next : Option Separator) → is_some next ≡ true → IsHalf w t op s page next → (node : NodeValue) × IsChosen w t op s page node × (length node.entries + 1 < capacity_of node.key_len false)
 half_of w t op s page None some half = absurd (false≢true some)
 half_of w t op s page (Some next) some half = half.1
 
@@ -166,8 +166,18 @@ half_fits walk s page next node w mid stands is same some full = not_founded w m
     let here = stands founded in
     let half = half_of w here.tree walk.op s page next some here.place.1.4 in
     let one : half.0 ≡ node = one_node w page node half.0 is half.1.is in
-    let room : length node.entries < capacity_of node.key_len false = subst (λ (v : NodeValue). length v.entries < capacity_of v.key_len false) one half.2 in
-    full (subst (λ kind. length node.entries < capacity_of node.key_len kind) (sym (held_seen walk s page next node w is here).1) room))
+    let room : length node.entries + 1 < capacity_of node.key_len false = subst (λ (v : NodeValue). length v.entries + 1 < capacity_of v.key_len false) one half.2 in
+    let less : length node.entries < capacity_of node.key_len false = omega arith in
+    full (subst (λ kind. length node.entries < capacity_of node.key_len kind) (sym (held_seen walk s page next node w is here).1) less))
+
+-- and for one more entry
+pub half_roomy : (walk : Walk) (s : Separator) (page : ℕ) (next : Option Separator) (node : NodeValue) (w mid : World) → Stands walk (stage.Post s (rise.Held page next)) w → page_at w page ≡ Holds node → mid ≡ w → is_some next ≡ true → (length node.entries + 1 < capacity_of node.key_len node.leaf → ⊥) → mid.founded ≡ false
+half_roomy walk s page next node w mid stands is same some full = not_founded w mid same (λ founded.
+    let here = stands founded in
+    let half = half_of w here.tree walk.op s page next some here.place.1.4 in
+    let one : half.0 ≡ node = one_node w page node half.0 is half.1.is in
+    let room : length node.entries + 1 < capacity_of node.key_len false = subst (λ (v : NodeValue). length v.entries + 1 < capacity_of v.key_len false) one half.2 in
+    full (subst (λ kind. length node.entries + 1 < capacity_of node.key_len kind) (sym (held_seen walk s page next node w is here).1) room))
 
 -- the node is one that the separator may be posted to
 pub held_for : (walk : Walk) (s : Separator) (page : ℕ) (next : Option Separator) (node : NodeValue) (w : World) → page_at w page ≡ Holds node → (here : StandsIn walk (stage.Post s (rise.Held page next)) w) → (node.leaf ≡ false) × (node.key_len ≡ length s.low.key) × IsInner w here.tree node
@@ -193,24 +203,13 @@ held_done walk s page next w now stands gives = subst (Stepped walk (after_post 
 pub rise_tidy : (walk : Walk) (s : Separator) (page : ℕ) (next : Option Separator) (w mid : World) → Stands walk (stage.Post s (rise.Held page next)) w → mid ≡ w → IsTrue mid.founded → IsTidy walk.op mid
 rise_tidy walk s page next w mid stands same founded = subst (IsTidy walk.op) (sym same) (stands (sym (ap (λ (v : World). v.founded) same) ∙ founded)).place.1.0
 
--- a node without room has two entries and more
-full_enough : (key_len count : ℕ) (leaf : Bool) → key_len ≤ 128 → nat_lt count (capacity_of key_len leaf) ≡ false → 2 ≤ count
-full_enough key_len count true short full =
-    let room : 2 ≤ (3968 - 2 * (9 + key_len)) / (key_len + 8) = (le-div_iff_mul-le {k = key_len + 8} {x = 2} {y = 3968 - 2 * (9 + key_len)} (omega arith)).1 (omega arith) in
-    let most = ltb-false count ((3968 - 2 * (9 + key_len)) / (key_len + 8)) full in
-    omega arith
-full_enough key_len count false short full =
-    let room : 2 ≤ (3968 - 2 * (9 + key_len)) / (key_len + 16) = (le-div_iff_mul-le {k = key_len + 16} {x = 2} {y = 3968 - 2 * (9 + key_len)} (omega arith)).1 (omega arith) in
-    let most = ltb-false count ((3968 - 2 * (9 + key_len)) / (key_len + 16)) full in
-    omega arith
-
 -- a full node is to be split
 pub held_full : (walk : Walk) (s : Separator) (page : ℕ) (next : Option Separator) (node : NodeValue) (w now : World) → Stands walk (stage.Post s (rise.Held page next)) w → now ≡ w → page_at w page ≡ Holds node → is_within node.low node.high s.low ≡ true → nat_lt (length node.entries) (capacity_of node.key_len node.leaf) ≡ false → Stepped walk (stage.Post s (rise.Full page)) w now
 held_full walk s page next node w now stands same is within full = stepped_same walk (stage.Post s (rise.Full page)) w now same (λ founded.
     let here = stands founded in
     let seen = held_seen walk s page next node w is here in
     at_stage walk (stage.Post s (rise.Held page next)) (stage.Post s (rise.Full page)) w here
-    (here.place.0, (here.place.1.0, (node, (record { is = is; owned = here.place.1.2; linked = seen.0.linked; of = seen.0.of; inner = seen.1; within = within; level = here.place.1.1.3 }, full_enough node.key_len (length node.entries) node.leaf seen.0.role.node_is.short_key full)), here.place.1.3)))
+    (here.place.0, (here.place.1.0, (node, (record { is = is; owned = here.place.1.2; linked = seen.0.linked; of = seen.0.of; inner = seen.1; within = within; level = here.place.1.1.3 }, full_enough node.key_len (length node.entries) node.leaf seen.0.role.node_is.short_key full, full)), here.place.1.3)))
 
 -- the separator is posted
 held_of : (walk : Walk) (s : Separator) (page : ℕ) (next : Option Separator) (node : NodeValue) (w : World) → page_at w page ≡ Holds node → (here : StandsIn walk (stage.Post s (rise.Held page next)) w) → IsHeld walk.op page node w

@@ -43,7 +43,7 @@ allocate_stepped walk page right w now stands new is = subst (Stepped walk (stag
     full : (here : StandsIn walk (stage.Full page) w) → IsFull (with_fresh walk.op w) here.tree walk.op walk.target page here.place.1.0
     full here =
         let is = here.place.1.1 in
-        record { is = page_at-with_fresh walk.op w page ∙ is.is; owned = is.owned; linked = is_fresh-with_fresh walk.op w page (page_within w page here.place.1.0 is.is) ∙ is.linked; of = is.of; leaf = is.leaf; enough = is.enough }
+        record { is = page_at-with_fresh walk.op w page ∙ is.is; owned = is.owned; linked = is_fresh-with_fresh walk.op w page (page_within w page here.place.1.0 is.is) ∙ is.linked; of = is.of; leaf = is.leaf; enough = is.enough; full = is.full }
 
 pub allocate_keys : (walk : Walk) (page : ℕ) (w now : World) → Stands walk (stage.Full page) w → now ≡ with_fresh walk.op w → KeepsKeys w now
 allocate_keys walk page w now stands is = subst (KeepsKeys w) (sym is) (KeepsKeys-with_fresh walk.op w (λ founded. (stands founded).apart))
@@ -89,7 +89,7 @@ write_stepped walk page right node new w now stands is made same = subst (Steppe
     full here =
         let old = full_seen walk (stage.Split page right) page here.place.1.0 node w here here.place.1.1 is in
         let apart : page ≡ right → ⊥ = λ one. false≢true (sym old.linked ∙ subst (λ q. is_fresh q w ≡ true) (sym one) (is_fresh_from walk.op right w here.place.2)) in
-        record { is = page_at-edited_other walk.op right new w page apart ∙ old.is; owned = old.owned; linked = stays_linked walk.op right new w page old.linked; of = old.of; leaf = old.leaf; enough = old.enough }
+        record { is = page_at-edited_other walk.op right new w page apart ∙ old.is; owned = old.owned; linked = stays_linked walk.op right new w page old.linked; of = old.of; leaf = old.leaf; enough = old.enough; full = old.full }
 
     written : (here : StandsIn walk (stage.Split page right) w) → page_at (edited walk.op right new w) right ≡ Holds (upper_half node)
     written here = page_at-edited walk.op right new w (here.apart.within right (is_fresh_from walk.op right w here.place.2)) ∙ ap Holds made

@@ -10,9 +10,9 @@ use Rattle.ct_node.specs.Worlds.{World, Defines, Holds, DefinitionValue, page_at
 use Rattle.ct_tree_laws.specs.Trees.{Tree, IsTree, IsApart, IsLeaf, IsLower, HasPassed}
 use Rattle.ct_tree_laws.proofs.Taking.{ChangesLatches}
 use Rattle.ct_tree_laws.proofs.Pages.{page_at-with_fresh, is_fresh-with_fresh, page_within, IsApart-with_fresh, has_fresh-with_fresh_other}
-use Rattle.ct_tree_laws.specs.Stands.{KeepsLevels}
+use Rattle.ct_tree_laws.specs.Stands.{KeepsLevels, KeepsAt}
 use Rattle.ct_tree_laws.proofs.Levels.{KeepsLevels-same}
-use Rattle.ct_tree_laws.proofs.Kept.{KeepsAt, KeepsLinks, IsReached, IsAlike-same, KeepsAt-from_links, IsTree-kept, named_kept}
+use Rattle.ct_tree_laws.proofs.Kept.{KeepsLinks, IsReached, IsAlike-same, KeepsAt-from_links, IsTree-kept, named_kept}
 use Rattle.ct_tree_laws.proofs.Chains.{one_node}
 use Rattle.ct_tree_laws.specs.Left.{HasPassedLeft}
 use Rattle.ct_tree_laws.proofs.LeftKept.{HasPassedLeft-kept}

@@ -1,5 +1,5 @@
 -- What holds between the turns of an operation: what it remembers still stands.
-use Rattle.std.specs.Prelude.{[], ◌≡◌, ℕ, suc, ◌<◌, ◌≤◌, ◌==◌, ◌&&◌, List, length, Bool, true, false, not, Option, Some, None, IsTrue, filter, if◌then◌else◌, ◌∷◌, ◌⊎◌, slice_get}
+use Rattle.std.specs.Prelude.{[], ◌≡◌, ℕ, suc, ◌<◌, ◌≤◌, ◌==◌, ◌&&◌, List, length, Bool, true, false, not, Option, Some, None, IsTrue, filter, if◌then◌else◌, ◌∷◌, ◌⊎◌, ◌+◌, nat_lt, slice_get}
 use Rattle.std.specs.Ordering.{is_lt, is_eq}
 use Rattle.ct_definitions.specs.Pairs.{Pair, pair_cmp, with_pair}
 use Rattle.ct_node.specs.declared.root.Root.{Root}
@@ -25,6 +25,10 @@ use Rattle.ct_tree_laws.specs.declared.rise.Rise.TheVariants as rise
 abbrev pub IsNearLeaf : World → Tree → Target → ℕ → Type 0
 IsNearLeaf w t target page = (low : Option Pair) × IsAt w t true low page × IsLowFor target low
 
+-- a node has no room for one more entry
+abbrev pub IsPacked : NodeValue → Type 0
+IsPacked node = nat_lt (length node.entries) (capacity_of node.key_len node.leaf) ≡ false
+
 -- the operation has a full leaf for itself
 pub record IsFull (w : World) (t : Tree) (op : ℕ) (target : Target) (page : ℕ) (node : NodeValue) : Type 0 where
   pub is : page_at w page ≡ Holds node
@@ -33,6 +37,7 @@ pub record IsFull (w : World) (t : Tree) (op : ℕ) (target : Target) (page : �
   pub of : IsOf t node
   pub leaf : node.leaf ≡ true
   pub enough : 2 ≤ length node.entries
+  pub full : IsPacked node
 
 -- all pages that an operation has, and that no link reaches, are blank but for one
 abbrev pub IsTidyBut : ℕ → ℕ → World → Type 0
@@ -80,14 +85,14 @@ pub record IsChosen (w : World) (t : Tree) (op : ℕ) (separator : Separator) (p
   pub within : is_within node.low node.high separator.low ≡ true
   pub level : IsOneAbove w page separator.child
 
--- a node that is to be split, before the separator is posted to one of its halves
+-- a full node that is to be split, before the separator is posted to one of its halves
 abbrev pub IsCrowded : World → Tree → ℕ → Separator → ℕ → NodeValue → Type 0
-IsCrowded w t op separator page node = IsChosen w t op separator page node × (2 ≤ length node.entries)
+IsCrowded w t op separator page node = IsChosen w t op separator page node × (2 ≤ length node.entries) × IsPacked node
 
--- a half of a split has room for the separator, and its own separator is to be posted next
+-- a half of a split has room for the separator and for one more entry, and its own separator is to be posted next
 abbrev pub IsHalf : World → Tree → ℕ → Separator → ℕ → Option Separator → Type 0
 IsHalf w t op separator page None = Unit {0}
-IsHalf w t op separator page (Some next) = IsSeparator w t next × ((node : NodeValue) × IsChosen w t op separator page node × (length node.entries < capacity_of node.key_len false))
+IsHalf w t op separator page (Some next) = IsSeparator w t next × ((node : NodeValue) × IsChosen w t op separator page node × (length node.entries + 1 < capacity_of node.key_len false))
 
 -- an operation has latches on these two pages at most
 abbrev pub HasBoth : ℕ → ℕ → ℕ → World → Type 0
@@ -184,12 +189,17 @@ Keeps op w now = (other : Walk) (stage : Stage) → (other.op ≡ op → ⊥) �
 abbrev pub KeepsLevels : World → World → Type 0
 KeepsLevels w now = (level page : ℕ) → IsLevel w level page → IsLevel now level page
 
--- a turn of an operation: what it remembers stands afterwards, and so does what others do; pages stay on their levels
+-- each node of a tree that a link reaches keeps its place
+abbrev pub KeepsAt : World → World → Type 0
+KeepsAt w now = (t : Tree) (leaf : Bool) (low : Option Pair) (page : ℕ) → IsAt w t leaf low page → IsAt now t leaf low page
+
+-- a turn of an operation: what it remembers stands afterwards, and so does what others do; pages stay on their levels, and nodes that links reach in their places
 pub record Stepped (walk : Walk) (to : Stage) (w now : World) : Type 0 where
   pub stands : Stands walk to now
   pub keeps : Keeps walk.op w now
   pub founded : now.founded ≡ w.founded
   pub levels : IsTrue w.founded → KeepsLevels w now
+  pub at : IsTrue w.founded → KeepsAt w now
 
 -- whether two indexes are the same
 abbrev pub is_same_root : Root → Root → Bool
