@@ -71,10 +71,6 @@ IsPastOf w pair page right = (node : NodeValue) × (page_at w page ≡ Holds nod
 abbrev pub is_full : NodeValue → Bool
 is_full node = not (nat_lt (length node.entries) (capacity_of node.key_len node.leaf))
 
--- a page has a full node of this kind
-abbrev pub HasFull : World → Bool → ℕ → Type 0
-HasFull w leaf page = (node : NodeValue) × (page_at w page ≡ Holds node) × (node.leaf ≡ leaf) × (is_full node ≡ true)
-
 -- the upper half of the node of a page is written into another page
 abbrev pub WritesUpper : ℕ → ℕ → World → World → Type 0
 WritesUpper page right w now = (node : NodeValue) × (page_at w page ≡ Holds node) × IsNode node × (2 ≤ length node.entries) × Writes right (upper_half node) w now
