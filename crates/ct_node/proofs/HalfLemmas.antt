@@ -6,7 +6,7 @@ use Rattle.std.specs.Ordering.{is_lt}
 use Rattle.std.proofs.Math.Nat.{mul-le-mul_right}
 use Rattle.std.proofs.lemmas.Bool.{and_parts, and_from, cases_eq}
 use Rattle.std.proofs.lemmas.Cmp.{tied_itself}
-use Rattle.std.proofs.lemmas.List.{length-map, length-take-le, length-drop, get_or-take, get_or-drop, take-map, drop-map}
+use Rattle.std.proofs.lemmas.List.{length-map, length-take-le, length-drop, get_or-take, get_or-drop, take-map, drop-map, take_at}
 use Rattle.ct_definitions.specs.Pairs.{Pair}
 use Rattle.ct_node.specs.Nodes.{Entry, NodeValue, IsNode, IsAscending, pair_in, pairs_in, width_of, is_from, is_below, is_within}
 use Rattle.ct_node.specs.Halves.{middle_of, upper_half, lower_half}
@@ -193,3 +193,17 @@ middle_cell_within n width is enough is_width =
     let same : n.count * width ≡ n.count * width_of n.key_len n.leaf = ap (λ w. n.count * w) is_width in
     let bounds = width_of-bounds n.key_len n.leaf in
     (step_within (n.count / 2) n.count width (omega arith), omega arith, omega arith)
+
+-- the bytes of a node's cells at the front of others, with any bytes behind them, are the same node
+pub value_of-copied : (n : Inside) (width : ℕ) (slice rest new : List ℕ) → length n.cells ≡ 3968 → IsNode (value_of n) → width ≡ width_of n.key_len n.leaf → slice ≡ n.cells → new ≡ take (n.count * width - 0) (drop 0 slice) ++ rest → value_of (record n { cells = new }) ≡ value_of n
+value_of-copied n width slice rest new long is is_width is_slice made =
+    let v = value_of n in
+    let full = width_of n.key_len n.leaf in
+    let room = cells_within n is in
+    let front : new ≡ take (n.count * full) n.cells ++ rest =
+    made ∙ ap (λ k. take k slice ++ rest) (let all : n.count * width - 0 ≡ n.count * width = omega arith in all) ∙ ap (λ s. take (n.count * width) s ++ rest) is_slice ∙ ap (λ w. take (n.count * w) n.cells ++ rest) is_width in
+    let bytes : take (n.count * full) new ≡ take (n.count * full) n.cells =
+    ap (take (n.count * full)) front ∙ take_at (take (n.count * full) n.cells) rest (n.count * full) (length-take-le (n.count * full) n.cells (omega arith)) in
+    let cells : cells_of full n.count new ≡ cells_of full n.count n.cells =
+    cells_of-front full n.count n.count n.cells new (omega arith) bytes (omega arith) ∙ sym (cells_of-front full n.count n.count n.cells n.cells (omega arith) refl (omega arith)) in
+    ap (λ (list : List (List ℕ)). record v { entries = map (entry_at n.key_len n.leaf) list }) cells

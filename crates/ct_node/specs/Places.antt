@@ -21,6 +21,11 @@ is_past (Some high) Last = true
 is_past (Some high) (At pair) = not (is_lt (pair_cmp pair high))
 is_past (Some high) (Before pair) = is_lt (pair_cmp high pair)
 
+-- whether a low bound is below a pair
+abbrev pub begins_below : Option Pair → Pair → Bool
+begins_below None pair = true
+begins_below (Some low) pair = is_lt (pair_cmp low pair)
+
 -- whether a pair is below a target, or at it where that counts
 abbrev pub is_ahead : Bool → Target → Pair → Bool
 is_ahead or_at First pair = false

@@ -1,5 +1,5 @@
 -- What a turn's answer says of the world and of faults.
-use Rattle.std.specs.Prelude.{◌≡◌, ℕ, Option, Some, None}
+use Rattle.std.specs.Prelude.{◌≡◌, ℕ, ◌<◌, ◌≤◌, Option, Some, None}
 use Rattle.ct_disk.specs.declared.turn.Turn.{Turn}
 use Rattle.ct_disk.specs.declared.turn.Turn.TheVariants.{Done, More, Busy, Refused}
 use Rattle.ct_disk.specs.declared.turn.StepFault.{StepFault}
@@ -57,3 +57,17 @@ Bears (Done answer) mark before now = now ≡ mark
 Bears More mark before now = now ≡ before
 Bears (Busy op) mark before now = now ≡ before
 Bears (Refused fault) mark before now = now ≡ before
+
+-- a fact of a turn that is to go on
+abbrev pub OnMore : {T : Type 0} → Turn T → Type 0 → Type 0
+OnMore (Done answer) P = Unit {0}
+OnMore More P = P
+OnMore (Busy op) P = Unit {0}
+OnMore (Refused fault) P = Unit {0}
+
+-- what is left of the pages' own work: less where a call is to be made again, and no more where it was done
+abbrev pub LeavesLess : {T : Type 0} → Turn T → ℕ → ℕ → Type 0
+LeavesLess (Done answer) before now = now ≤ before
+LeavesLess More before now = now < before
+LeavesLess (Busy op) before now = Unit {0}
+LeavesLess (Refused fault) before now = Unit {0}

@@ -1,5 +1,5 @@
 -- The pages that nodes stand in, who holds them, and the edits that an operation may make.
-use Rattle.std.specs.Prelude.{◌≡◌, ℕ, ◌≤◌, ◌==◌, List, [], ◌∷◌, ◌++◌, length, filter, slice_get, slice_index_or, slice_set, Bool, true, false, not, ◌&&◌, Option, Some, None}
+use Rattle.std.specs.Prelude.{◌≡◌, ℕ, zero, suc, ◌≤◌, ◌==◌, List, [], ◌∷◌, ◌++◌, length, filter, slice_get, slice_index_or, slice_set, Bool, true, false, not, ◌&&◌, Option, Some, None}
 use Rattle.std.specs.List.{list_any}
 use Rattle.ct_latch.specs.declared.hold.Hold.{Hold}
 use Rattle.ct_latch.specs.Latches.{is_of}
@@ -34,6 +34,19 @@ pub record World : Type 0 where
 -- what stands in the page of a number; one past the last is blank
 abbrev pub page_at : World → ℕ → PageValue
 page_at w page = slice_index_or w.pages page Blank
+
+-- a page stands so many levels above the leaves: a leaf at none, an inner node one above its first page below
+abbrev pub IsLevel : World → ℕ → ℕ → Type 0
+IsLevel w zero page = (node : NodeValue) × (page_at w page ≡ Holds node) × (node.leaf ≡ true)
+IsLevel w (suc lower) page = (node : NodeValue) × (first : Entry) × (rest : List Entry) × (page_at w page ≡ Holds node) × (node.leaf ≡ false) × (node.entries ≡ first ∷ rest) × IsLevel w lower first.child
+
+-- two pages stand on one level
+abbrev pub IsBeside : World → ℕ → ℕ → Type 0
+IsBeside w page other = (level : ℕ) × IsLevel w level page × IsLevel w level other
+
+-- a page stands one level above another
+abbrev pub IsOneAbove : World → ℕ → ℕ → Type 0
+IsOneAbove w page other = (level : ℕ) × IsLevel w (suc level) page × IsLevel w level other
 
 -- whether a hold is one that this operation has on this page for itself
 abbrev pub is_own_of : ℕ → ℕ → Hold → Bool
@@ -140,7 +153,7 @@ pub record IsBelow (child : ℕ) (low : Pair) (node below : NodeValue) (w : Worl
   pub key_len : below.key_len ≡ node.key_len
   pub from : below.low ≡ Some low
 
--- an inner node with one more page below, which begins at its pair: above the node's first pair, and within its bounds
+-- an inner node with one more page below, which begins at its pair: above the node's first pair, and within its bounds; that page is on the next lower level
 pub record PostsChild (op page : ℕ) (new : NodeValue) (w : World) : Type 0 where
   pub node : NodeValue
   pub low : Pair
@@ -156,10 +169,11 @@ pub record PostsChild (op page : ℕ) (new : NodeValue) (w : World) : Type 0 whe
   pub absent : has_pair low (pairs_in node) ≡ false
   pub within : is_within node.low node.high low ≡ true
   pub there : IsBelow child low node below w
+  pub level : IsOneAbove w page child
   pub sound : IsNode new
   pub made : new ≡ record node { entries = with_entry (record { pair = low; child = child }) node.entries }
 
--- a new root, in a page of the operation that holds nothing yet, while it has the definition page for itself: its first page below is the old root, and its second one begins at its pair
+-- a new root, in a page of the operation that holds nothing yet, while it has the definition page for itself: its first page below is the old root, and its second one begins at its pair; both are on one level
 pub record WritesRoot (op page : ℕ) (new : NodeValue) (w : World) : Type 0 where
   pub at : Root
   pub row : IndexRow
@@ -181,6 +195,7 @@ pub record WritesRoot (op page : ℕ) (new : NodeValue) (w : World) : Type 0 whe
   pub stood : page_at w first.child ≡ Holds old
   pub of : (new.file ≡ old.file) × (new.index ≡ old.index) × (new.key_len ≡ old.key_len)
   pub there : IsBelow second.child second.pair new below w
+  pub level : IsBeside w first.child second.child
   pub sound : IsNode new
 
 -- the edits that an operation may make: one pair of a leaf that it has for itself, which may be a step of a transaction, the two writes of a split, a page posted to an inner node, and a new root

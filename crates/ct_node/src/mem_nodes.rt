@@ -180,6 +180,12 @@ impl Nodes for MemNodes {
 
     ghost allows_none = { λ nodes op. tt };
 
+    ghost left = { λ nodes. 0 };
+
+    fn pages(&self) -> u64 {
+        self.pages.len() as u64
+    }
+
     fn look(&mut self, _op: u64, page: u64, into: &mut Node) -> Turn<()> {
         if let Some(fault) = self.refusal() {
             return Turn::Refused(fault);

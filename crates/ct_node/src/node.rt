@@ -10,7 +10,7 @@ ghost use Rattle.ct_page.specs.Fields.{u64_at};
 ghost use Rattle.ct_page.specs.Headers.{has_fields};
 ghost use Rattle.ct_node.specs.Nodes.{IsNode, pairs_in, capacity_of, is_from, is_below, is_within, has_pair, with_entry, has_other_pair};
 ghost use Rattle.ct_node.specs.Cells.{cells_of, pair_at, with_bytes};
-ghost use Rattle.ct_node.specs.Places.{is_before, is_past, is_ahead, here, down, next_place};
+ghost use Rattle.ct_node.specs.Places.{is_before, is_past, is_ahead, here, down, next_place, begins_below};
 ghost use Rattle.ct_node.specs.Halves.{middle_of, upper_half, lower_half};
 ghost use Rattle.ct_node.specs.Roles.{begins_at_low};
 ghost use Rattle.ct_node.specs.Pages.{node_in, header_in, page_text};
@@ -240,6 +240,16 @@ impl Node {
         high.cmp_pair(self.key_len, pair).is_gt()
     }
 
+    /// Whether its low bound is below a pair.
+    pub fn begins_below(&self, pair: &Pair) -> bool
+        ensures { result ≡ begins_below self.now.low pair.now }
+    {
+        let Some(low) = self.low else {
+            return true;
+        };
+        low.cmp_pair(self.key_len, pair).is_lt()
+    }
+
     /// Whether an inner node begins at its low bound, or at zeros where that is open. So it has an
     /// entry. Of a leaf nothing is asked.
     pub fn begins_at_low(&self) -> bool
@@ -341,6 +351,7 @@ impl Node {
     pub fn copy_into(&self, into: &mut Node)
         ensures { into.new ≡ self.now }
     {
+        let end = self.count * width_of(self.key_len, self.leaf);
         into.file = self.file;
         into.index = self.index;
         into.leaf = self.leaf;
@@ -349,8 +360,7 @@ impl Node {
         into.high = self.high;
         into.right = self.right;
         into.count = self.count;
-        let cells = self.cells;
-        into.cells = cells;
+        copy_cells(self.cells.as_slice(), 0, end, into.cells.as_mut_slice());
     }
 
     /// Makes another node the one to the right of this: from the middle pair on, up to the bound and

@@ -6,7 +6,7 @@ ghost use Rattle.ct_disk.specs.declared.turn.HaltCause.{HaltCause};
 ghost use Rattle.ct_disk.specs.declared.turn.StepFault.{StepFault};
 ghost use Rattle.ct_node.specs.declared.root.Mark.{Mark};
 ghost use Rattle.ct_node.specs.Worlds.{World, Holds, page_at, has_own, with_fresh, with_holds, edited, rooted, row_in, Move, RaisesRoot, IsTidy, no_mark};
-ghost use Rattle.ct_node.specs.Turns.{OnDone, OnBusy, After, LatchedBy, Bears, Caused, CausedTurn};
+ghost use Rattle.ct_node.specs.Turns.{OnDone, OnBusy, After, LatchedBy, Bears, Caused, CausedTurn, LeavesLess};
 
 use crate::node::Node;
 use crate::root::{Mark, Root};
@@ -14,7 +14,7 @@ use ct_disk::{StepFault, Turn};
 
 /// The pages of indexes, which operations visit in turns. Each call but `free`, `free_all` and
 /// `bad` is one step of a turn. A call that is not done leaves the pages and the latches as they
-/// were; `More` says that it is to be made again.
+/// were; `More` says that it is to be made again, and that less work of the pages' own is left.
 pub trait Nodes {
     /// The pages, the latches and the pages that no link reaches yet.
     ghost world: { Self → World };
@@ -34,6 +34,13 @@ pub trait Nodes {
     /// The mark that the last edit bore.
     ghost marked: { Self → Mark };
 
+    /// How much work of their own the pages have, at most, before they do what they are asked for.
+    ghost left: { Self → ℕ };
+
+    /// How many pages there are.
+    fn pages(&self) -> u64
+        ensures { result ≡ length (world self.now).pages };
+
     /// Copies the node of a page.
     fn look(&mut self, op: u64, page: u64, into: &mut Node) -> Turn<()>
         ensures seen { OnDone result (λ _. page_at (world self.old) page ≡ Holds into.new) }
@@ -42,6 +49,7 @@ pub trait Nodes {
         ensures busy { OnBusy result (λ other. flushes self.old ≡ Some other) }
         ensures flushes { OnDone result (λ _. flushes self.new ≡ flushes self.old) }
         ensures marks { (mark : Mark) → allows self.old op mark → allows self.new op mark }
+        ensures left { LeavesLess result (left self.old) (left self.new) }
         ensures cause { CausedTurn result (faults self.old) (faults self.new) (halted self.old) (halted self.new) };
 
     /// Writes a node into a page.
@@ -51,6 +59,7 @@ pub trait Nodes {
         ensures marked { Bears result mark (marked self.old) (marked self.new) }
         ensures world { After result (λ _. edited op page node.now (world self.old)) (world self.old) (world self.new) }
         ensures busy { OnBusy result (λ other. flushes self.old ≡ Some other) }
+        ensures left { LeavesLess result (left self.old) (left self.new) }
         ensures cause { CausedTurn result (faults self.old) (faults self.new) (halted self.old) (halted self.new) };
 
     /// Allocates a page, which belongs to the operation until a link reaches it.
@@ -59,6 +68,7 @@ pub trait Nodes {
         ensures marked { marked self.new ≡ marked self.old }
         ensures world { After result (λ _. with_fresh op (world self.old)) (world self.old) (world self.new) }
         ensures busy { OnBusy result (λ other. flushes self.old ≡ Some other) }
+        ensures left { LeavesLess result (left self.old) (left self.new) }
         ensures cause { CausedTurn result (faults self.old) (faults self.new) (halted self.old) (halted self.new) };
 
     /// Lets an operation share a page, unless another has it for itself.
@@ -66,6 +76,7 @@ pub trait Nodes {
         ensures marked { marked self.new ≡ marked self.old }
         ensures world { After result (λ _. with_holds (with_share page op (world self.old).holds) (world self.old)) (world self.old) (world self.new) }
         ensures busy { LatchedBy result (find (bars page op false) (world self.old).holds) }
+        ensures left { LeavesLess result (left self.old) (left self.new) }
         ensures cause { CausedTurn result (faults self.old) (faults self.new) (halted self.old) (halted self.new) };
 
     /// Lets an operation have a page for itself, unless another holds it.
@@ -73,6 +84,7 @@ pub trait Nodes {
         ensures marked { marked self.new ≡ marked self.old }
         ensures world { After result (λ _. with_holds (with_hold (record { node = page; op = op; own = true }) (world self.old).holds) (world self.old)) (world self.old) (world self.new) }
         ensures busy { LatchedBy result (find (bars page op true) (world self.old).holds) }
+        ensures left { LeavesLess result (left self.old) (left self.new) }
         ensures cause { CausedTurn result (faults self.old) (faults self.new) (halted self.old) (halted self.new) };
 
     /// Gives back the latch that an operation has on a page, where it has one.
@@ -97,6 +109,7 @@ pub trait Nodes {
         ensures marked { marked self.new ≡ marked self.old }
         ensures world { world self.new ≡ world self.old }
         ensures busy { OnBusy result (λ other. flushes self.old ≡ Some other) }
+        ensures left { LeavesLess result (left self.old) (left self.new) }
         ensures cause { CausedTurn result (faults self.old) (faults self.new) (halted self.old) (halted self.new) };
 
     /// Names another root of an index.
@@ -105,6 +118,7 @@ pub trait Nodes {
         ensures marked { marked self.new ≡ marked self.old }
         ensures world { After result (λ _. rooted op at page (world self.old)) (world self.old) (world self.new) }
         ensures busy { OnBusy result (λ other. flushes self.old ≡ Some other) }
+        ensures left { LeavesLess result (left self.old) (left self.new) }
         ensures cause { CausedTurn result (faults self.old) (faults self.new) (halted self.old) (halted self.new) };
 
     /// Halts for a page that is outside its role, which none is where operations alone made the

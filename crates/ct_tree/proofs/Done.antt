@@ -241,7 +241,7 @@ left_finding or_at stage.Ended is = absurd is
 
 -- what holds after one call and after the next
 pub stepped_on : (walk : Walk) (first to : Stage) (w mid now : World) → Stepped walk first w mid → Stepped walk to mid now → Stepped walk to w now
-stepped_on walk first to w mid now one next = record { stands = next.stands; keeps = λ other stage differ stands. next.keeps other stage differ (one.keeps other stage differ stands); founded = next.founded ∙ one.founded }
+stepped_on walk first to w mid now one next = record { stands = next.stands; keeps = λ other stage differ stands. next.keeps other stage differ (one.keeps other stage differ stands); founded = next.founded ∙ one.founded; levels = λ founded level page is. next.levels (one.founded ∙ founded) level page (one.levels founded level page is); at = λ founded t leaf low page is. next.at (one.founded ∙ founded) t leaf low page (one.at founded t leaf low page is) }
 
 pub keys_on : (w mid now : World) → mid.founded ≡ w.founded → KeepsKeys w mid → KeepsKeys mid now → KeepsKeys w now
 keys_on w mid now same one next founded at keys chain = next (same ∙ founded) at keys (one founded at keys chain)

@@ -3,3 +3,8 @@ pub mod Programs
 pub mod Lists
 pub mod News
 pub mod Damaged
+pub mod Counts
+pub mod Lefts
+pub mod OneTurn
+pub mod Paths
+pub mod Counting

@@ -20,14 +20,15 @@ use Rattle.ct_tree.specs.declared.search.Search.{Search}
 use Rattle.ct_tree.specs.declared.program.Program.TheVariants as program
 use Rattle.ct_tree.specs.declared.program.Program.{Program}
 use Rattle.ct_tree.specs.declared.program.Happened.{Happened}
-use Rattle.ct_tree.specs.Answers.{IsPair, IsPutting, IsSearching, IsSearchingBy}
-use Rattle.ct_tree.specs.Schedules.{Task, Runs, walk_of, stage_of, op_of, IsReady, IsNew, AllStand, HaveOwnNumbers}
+use Rattle.ct_tree.specs.Answers.{IsPair, IsPutting, IsSearchingBy}
+use Rattle.ct_tree.specs.Schedules.{Task, Runs, walk_of, moves_of, op_of, IsReady, IsNew, IsStanding, AllStand, HaveOwnNumbers}
+use Rattle.ct_tree.specs.Counted.{IsCounted}
 use Rattle.ct_tree.proofs.Done.{seek_start}
 
 pub new_all_stand : (key_len : ℕ) (programs : List Program) (w : World) → 1 ≤ key_len → key_len ≤ 128 → w ≡ new_world key_len → All (IsNew key_len) programs → AllStand programs w
 new_all_stand key_len programs w some short is all =
-    All-weaker (IsNew key_len) (λ program. Stands (walk_of program) (stage_of program) w)
-    (λ program new. subst (λ at. Stands (walk_of program) at w) (sym new.starts) (subst (Stands (walk_of program) stage.Start) (sym is) (new_stands key_len some short (walk_of program) new.at new.key))) programs all
+    All-weaker (IsNew key_len) (IsStanding w)
+    (λ program new. (subst (λ at. Stands (walk_of program) at w) (sym new.starts) (subst (Stands (walk_of program) stage.Start) (sym is) (new_stands key_len some short (walk_of program) new.at new.key)), subst (λ at. IsCounted at (moves_of program) w) (sym new.starts) (λ founded. new.still))) programs all
 
 pub new_all_ready : (key_len : ℕ) (programs : List Program) → All (IsNew key_len) programs → All IsReady programs
 new_all_ready key_len programs all = All-weaker (IsNew key_len) IsReady (λ program new. new.ready) programs all
@@ -62,19 +63,21 @@ pub numbers_count : (programs : List Program) (n : ℕ) → map op_of programs �
 numbers_count programs n is = sym (length-map programs op_of) ∙ ap length is ∙ length-range_with_len 0 n
 
 -- a put that was made for such an index is new
-pub new_put : (put : Put) (key_len op : ℕ) (pair : Pair) → put.walk ≡ record { op = op; at = record { page = 0; index = 0 }; target = At pair } → put.stage ≡ stage.Start → length pair.key ≡ key_len → IsNew key_len (program.Put put)
-new_put put key_len op pair walk starts key = record {
+pub new_put : (put : Put) (key_len op : ℕ) (pair : Pair) → put.walk ≡ record { op = op; at = record { page = 0; index = 0 }; target = At pair } → put.stage ≡ stage.Start → put.moves ≡ 0 → length pair.key ≡ key_len → IsNew key_len (program.Put put)
+new_put put key_len op pair walk starts still key = record {
   at = ap (λ (w : Walk). w.at) walk;
   starts = starts;
+  still = still;
   ready = (subst (λ (w : Walk). IsPair w.target) (sym walk) tt, inl (subst IsPutting (sym starts) tt));
   key = λ other is. let both : At pair ≡ At other = sym (ap (λ (w : Walk). w.target) walk) ∙ is in let same : pair ≡ other = cc in ap (λ (p : Pair). length p.key) (sym same) ∙ key;
 }
 
 -- so is a search for the first pair
-pub new_search : (search : Search) (key_len op : ℕ) → search.walk ≡ record { op = op; at = record { page = 0; index = 0 }; target = First } → search.stage ≡ stage.Start → IsNew key_len (program.Search search)
-new_search search key_len op walk starts = record {
+pub new_search : (search : Search) (key_len op : ℕ) → search.walk ≡ record { op = op; at = record { page = 0; index = 0 }; target = First } → search.stage ≡ stage.Start → search.moves ≡ 0 → IsNew key_len (program.Search search)
+new_search search key_len op walk starts still = record {
   at = ap (λ (w : Walk). w.at) walk;
   starts = starts;
+  still = still;
   ready = inl (subst (IsSearchingBy search.seek) (sym starts) (seek_start search.seek));
   key = λ other is. absurd (let no : First ≡ At other = sym (ap (λ (w : Walk). w.target) walk) ∙ is in cc);
 }

@@ -11,7 +11,7 @@ use Rattle.ct_tree_laws.specs.declared.walk.Stage.TheVariants as stage
 use Rattle.ct_tree_laws.specs.Trees.{Chain}
 use Rattle.ct_tree_laws.specs.Stands.{KeepsKeys, ChangesKeys, is_same_root}
 use Rattle.ct_tree_laws.proofs.Keys.{same_root}
-use Rattle.ct_tree.specs.Answers.{put_at, take_at, has_at, found_right, found_by}
+use Rattle.ct_tree.specs.Answers.{put_at, take_at, has_at, found_by}
 use Rattle.ct_tree.specs.Schedules.{Task, is_ended}
 use Rattle.ct_tree.specs.declared.seek.Seek.{Seek}
 

@@ -4,3 +4,7 @@ pub use Rattle.ct_tree_laws.specs.Stands
 pub use Rattle.ct_node.specs.Worlds
 pub use Rattle.ct_node.specs.Turns
 pub mod Schedules
+pub mod Moves
+pub mod Rules
+pub mod Ends
+pub mod Counted

@@ -17,8 +17,9 @@ use Rattle.ct_tree.specs.declared.program.Program.TheVariants as program
 use Rattle.ct_tree.specs.declared.program.Answer.{Answer}
 use Rattle.ct_tree.specs.declared.program.Answer.TheVariants as answer
 use Rattle.ct_tree.specs.declared.program.Happened.{Happened}
-use Rattle.ct_tree.specs.Answers.{IsPair, put_at, take_at, has_at, found_right, IsPutting, IsTaking, IsSearching, found_by, IsSearchingBy}
+use Rattle.ct_tree.specs.Answers.{IsPair, put_at, take_at, has_at, IsPutting, IsTaking, found_by, IsSearchingBy}
 use Rattle.ct_tree.specs.declared.seek.Seek.{Seek}
+use Rattle.ct_tree.specs.Counted.{IsCounted}
 
 -- what an operation is to do
 pub data Task : Type 0 where
@@ -30,6 +31,11 @@ abbrev pub walk_of : Program → Walk
 walk_of (program.Put put) = put.walk
 walk_of (program.Take take) = take.walk
 walk_of (program.Search search) = search.walk
+
+abbrev pub moves_of : Program → ℕ
+moves_of (program.Put put) = put.moves
+moves_of (program.Take take) = take.moves
+moves_of (program.Search search) = search.moves
 
 abbrev pub stage_of : Program → Stage
 stage_of (program.Put put) = put.stage
@@ -77,9 +83,13 @@ is_ended (stage.Left low or_at way) = false
 is_ended (stage.Post separator rise) = false
 is_ended stage.Ended = true
 
--- all that these operations remember stands
+-- what an operation remembers stands, and its moves are counted
+abbrev pub IsStanding : World → Program → Type 0
+IsStanding w program = Stands (walk_of program) (stage_of program) w × IsCounted (stage_of program) (moves_of program) w
+
+-- so it is of all these operations
 abbrev pub AllStand : List Program → World → Type 0
-AllStand programs w = All (λ program. Stands (walk_of program) (stage_of program) w) programs
+AllStand programs w = All (IsStanding w) programs
 
 abbrev pub op_of : Program → ℕ
 op_of program = (walk_of program).op
@@ -106,5 +116,6 @@ places_of happened = map (λ one. one.program) happened
 pub record IsNew (key_len : ℕ) (program : Program) : Type 0 where
   pub at : (walk_of program).at ≡ record { page = 0; index = 0 }
   pub starts : stage_of program ≡ stage.Start
+  pub still : moves_of program ≡ 0
   pub ready : IsReady program
   pub key : (pair : Pair) → (walk_of program).target ≡ At pair → length pair.key ≡ key_len

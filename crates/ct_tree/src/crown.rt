@@ -6,6 +6,7 @@ ghost use Rattle.ct_node.specs.Worlds.{no_mark};
 ghost use Rattle.ct_node.specs.Turns.{OnBusy, CausedTurn};
 ghost use Rattle.ct_tree_laws.specs.Stands.{Stands, Stepped, KeepsKeys, node_over};
 ghost use Rattle.ct_tree.specs.Answers.{is_done, IsInTheWay, IsPutting};
+ghost use Rattle.ct_tree.specs.Rules.{IsTurned};
 
 use crate::descent::is_done;
 use ct_disk::Turn;
@@ -22,6 +23,7 @@ pub(crate) fn own_definition<N: Nodes>(
 ) -> (Stage, Turn<()>)
     requires { Stands walk.now (Stage.Post separator Rise.Again) (N.world nodes.old) }
     ensures stepped { Stepped walk.now result.0 (N.world nodes.old) (N.world nodes.new) }
+    ensures rule { IsTurned result.1 walk.now (N.world nodes.old) (N.world nodes.new) (N.left nodes.old) (N.left nodes.new) (Stage.Post separator Rise.Again) result.0 }
     ensures keys { KeepsKeys (N.world nodes.old) (N.world nodes.new) }
     ensures going { is_done result.1 ≡ false }
     ensures putting { IsPutting result.0 }
@@ -57,6 +59,7 @@ pub(crate) fn name_again<N: Nodes>(
 ) -> (Stage, Turn<()>)
     requires { Stands walk.now (Stage.Post separator Rise.Named) (N.world nodes.old) }
     ensures stepped { Stepped walk.now result.0 (N.world nodes.old) (N.world nodes.new) }
+    ensures rule { IsTurned result.1 walk.now (N.world nodes.old) (N.world nodes.new) (N.left nodes.old) (N.left nodes.new) (Stage.Post separator Rise.Named) result.0 }
     ensures keys { KeepsKeys (N.world nodes.old) (N.world nodes.new) }
     ensures going { is_done result.1 ≡ false }
     ensures putting { IsPutting result.0 }
@@ -116,6 +119,7 @@ pub(crate) fn allocate_root<N: Nodes>(
 ) -> (Stage, Turn<()>)
     requires { Stands walk.now (Stage.Post separator Rise.Grow) (N.world nodes.old) }
     ensures stepped { Stepped walk.now result.0 (N.world nodes.old) (N.world nodes.new) }
+    ensures rule { IsTurned result.1 walk.now (N.world nodes.old) (N.world nodes.new) (N.left nodes.old) (N.left nodes.new) (Stage.Post separator Rise.Grow) result.0 }
     ensures keys { KeepsKeys (N.world nodes.old) (N.world nodes.new) }
     ensures going { is_done result.1 ≡ false }
     ensures putting { IsPutting result.0 }
@@ -166,6 +170,7 @@ pub(crate) fn write_root<N: Nodes>(
 ) -> (Stage, Turn<()>)
     requires { Stands walk.now (Stage.Post separator (Rise.Crown root)) (N.world nodes.old) }
     ensures stepped { Stepped walk.now result.0 (N.world nodes.old) (N.world nodes.new) }
+    ensures rule { IsTurned result.1 walk.now (N.world nodes.old) (N.world nodes.new) (N.left nodes.old) (N.left nodes.new) (Stage.Post separator (Rise.Crown root)) result.0 }
     ensures keys { KeepsKeys (N.world nodes.old) (N.world nodes.new) }
     ensures going { is_done result.1 ≡ false }
     ensures putting { IsPutting result.0 }
@@ -256,6 +261,7 @@ pub(crate) fn name_root<N: Nodes>(
 ) -> (Stage, Turn<()>)
     requires { Stands walk.now (Stage.Post separator (Rise.Crowned root)) (N.world nodes.old) }
     ensures stepped { Stepped walk.now result.0 (N.world nodes.old) (N.world nodes.new) }
+    ensures rule { IsTurned result.1 walk.now (N.world nodes.old) (N.world nodes.new) (N.left nodes.old) (N.left nodes.new) (Stage.Post separator (Rise.Crowned root)) result.0 }
     ensures keys { KeepsKeys (N.world nodes.old) (N.world nodes.new) }
     ensures going { is_done result.1 ≡ false }
     ensures putting { IsPutting result.0 }

@@ -4,6 +4,7 @@ ghost use Rattle.std.specs.Prelude.{◌≡◌, ◌==◌, ◌&&◌, IsTrue, false
 ghost use Rattle.ct_node.specs.Turns.{OnBusy, CausedTurn};
 ghost use Rattle.ct_tree_laws.specs.Stands.{Stands, Stepped, KeepsKeys};
 ghost use Rattle.ct_tree.specs.Answers.{is_done, IsInTheWay, IsPutting, IsTaking, IsFinding, IsSearching, answer_with, is_for};
+ghost use Rattle.ct_tree.specs.Rules.{IsTurned, leads_to};
 
 use ct_disk::Turn;
 use ct_node::{Node, Nodes, Pair, Place};
@@ -25,6 +26,7 @@ pub(crate) fn is_done(turn: &Turn<()>) -> bool
 pub(crate) fn start<N: Nodes>(walk: &Walk, nodes: &mut N) -> (Stage, Turn<()>)
     requires { Stands walk.now Stage.Start (N.world nodes.old) }
     ensures stepped { Stepped walk.now result.0 (N.world nodes.old) (N.world nodes.new) }
+    ensures rule { IsTurned result.1 walk.now (N.world nodes.old) (N.world nodes.new) (N.left nodes.old) (N.left nodes.new) Stage.Start result.0 }
     ensures keys { KeepsKeys (N.world nodes.old) (N.world nodes.new) }
     ensures going { is_done result.1 ≡ false }
     ensures putting { IsPutting result.0 }
@@ -44,9 +46,15 @@ pub(crate) fn start<N: Nodes>(walk: &Walk, nodes: &mut N) -> (Stage, Turn<()>)
 }
 
 /// Goes on from a page: right, down, or to a latch on the leaf that it is.
-pub(crate) fn descend<N: Nodes>(walk: &Walk, nodes: &mut N, page: u64) -> (Stage, Turn<()>)
+pub(crate) fn descend<N: Nodes>(
+    walk: &Walk,
+    nodes: &mut N,
+    page: u64,
+    node: &mut Node,
+) -> (Stage, Turn<()>)
     requires { Stands walk.now (Stage.Down page) (N.world nodes.old) }
     ensures stepped { Stepped walk.now result.0 (N.world nodes.old) (N.world nodes.new) }
+    ensures rule { IsTurned result.1 walk.now (N.world nodes.old) (N.world nodes.new) (N.left nodes.old) (N.left nodes.new) (Stage.Down page) result.0 }
     ensures keys { KeepsKeys (N.world nodes.old) (N.world nodes.new) }
     ensures going { is_done result.1 ≡ false }
     ensures putting { IsPutting result.0 }
@@ -57,12 +65,15 @@ pub(crate) fn descend<N: Nodes>(walk: &Walk, nodes: &mut N, page: u64) -> (Stage
     ensures busy { OnBusy result.1 (IsInTheWay (N.flushes nodes.old) (N.world nodes.old) walk.now.op) }
     ensures cause { CausedTurn result.1 (N.faults nodes.old) (N.faults nodes.new) (N.halted nodes.old) (N.halted nodes.new) }
 {
-    let mut node = Node::new(0, 0, true, 1);
-    let seen = nodes.look(walk.op, page, &mut node);
+    let seen = nodes.look(walk.op, page, node);
     if !is_done(&seen) {
         return (Stage::Down { page }, seen);
     }
-    match node.next_place(&walk.target) {
+    let place = node.next_place(&walk.target);
+    if leads_to(place, page) {
+        return (Stage::Down { page }, Turn::Refused(nodes.bad(page)));
+    }
+    match place {
         Place::Right(right) => return (Stage::Down { page: right }, Turn::More),
         Place::Down(below) => return (Stage::Down { page: below }, Turn::More),
         Place::Here(_) => return (Stage::Leaf { page }, Turn::More),
@@ -75,10 +86,23 @@ pub(crate) fn descend<N: Nodes>(walk: &Walk, nodes: &mut N, page: u64) -> (Stage
     }
 }
 
+/// Whether a walk goes on to this page.
+pub(crate) fn leads_to(place: Place, page: u64) -> bool
+    ensures { result ≡ leads_to page place }
+{
+    match place {
+        Place::Right(right) => return right == page,
+        Place::Down(below) => return below == page,
+        Place::Here(_) => return false,
+        Place::End => return false,
+    }
+}
+
 /// Makes the leaf that was found the operation's own.
 pub(crate) fn own_leaf<N: Nodes>(walk: &Walk, nodes: &mut N, page: u64) -> (Stage, Turn<()>)
     requires { Stands walk.now (Stage.Leaf page) (N.world nodes.old) }
     ensures stepped { Stepped walk.now result.0 (N.world nodes.old) (N.world nodes.new) }
+    ensures rule { IsTurned result.1 walk.now (N.world nodes.old) (N.world nodes.new) (N.left nodes.old) (N.left nodes.new) (Stage.Leaf page) result.0 }
     ensures keys { KeepsKeys (N.world nodes.old) (N.world nodes.new) }
     ensures going { is_done result.1 ≡ false }
     ensures putting { IsPutting result.0 }
@@ -102,10 +126,16 @@ pub(crate) fn is_for(node: &Node, pair: &Pair) -> bool
 }
 
 /// One turn on the way to a leaf that is to be the operation's own.
-pub(crate) fn find_leaf<N: Nodes>(walk: &Walk, stage: Stage, nodes: &mut N) -> (Stage, Turn<()>)
+pub(crate) fn find_leaf<N: Nodes>(
+    walk: &Walk,
+    stage: Stage,
+    nodes: &mut N,
+    node: &mut Node,
+) -> (Stage, Turn<()>)
     requires stands { Stands walk.now stage (N.world nodes.old) }
     requires finding { IsFinding stage }
     ensures stepped { Stepped walk.now result.0 (N.world nodes.old) (N.world nodes.new) }
+    ensures rule { IsTurned result.1 walk.now (N.world nodes.old) (N.world nodes.new) (N.left nodes.old) (N.left nodes.new) stage result.0 }
     ensures keys { KeepsKeys (N.world nodes.old) (N.world nodes.new) }
     ensures going { is_done result.1 ≡ false }
     ensures taking { IsTaking result.0 }
@@ -115,7 +145,7 @@ pub(crate) fn find_leaf<N: Nodes>(walk: &Walk, stage: Stage, nodes: &mut N) -> (
 {
     match stage {
         Stage::Start => return start(walk, nodes),
-        Stage::Down { page } => return descend(walk, nodes, page),
+        Stage::Down { page } => return descend(walk, nodes, page, node),
         Stage::Leaf { page } => return own_leaf(walk, nodes, page),
         Stage::Held { page: _ } => unreachable!(),
         Stage::Full { page: _ } => unreachable!(),

@@ -1,4 +1,5 @@
-//! What holds between the writes of a split, and between those of a new root.
+//! What holds between the writes of a split and between those of a new root, and what the levels of
+//! a tree are.
 
 ghost use Rattle.std.specs.Prelude.{◌≡◌, ℕ, List, Some, IsTrue, true, false};
 ghost use Rattle.ct_node.specs.declared.root.Root.{Root};
@@ -6,7 +7,7 @@ ghost use Rattle.std.specs.List.{All};
 ghost use Rattle.ct_node.specs.declared.root.IndexRow.{IndexRow};
 ghost use Rattle.ct_node.specs.Nodes.{Entry, NodeValue};
 ghost use Rattle.ct_node.specs.Halves.{upper_half};
-ghost use Rattle.ct_node.specs.Worlds.{World, Holds, page_at, has_own, is_fresh, row_in};
+ghost use Rattle.ct_node.specs.Worlds.{World, Holds, page_at, IsLevel, IsBeside, IsOneAbove, has_own, is_fresh, row_in};
 ghost use Rattle.ct_tree_laws.specs.declared.walk.Walk.{Walk};
 ghost use Rattle.ct_tree_laws.specs.declared.walk.Stage.TheVariants.{Cut, Post};
 ghost use Rattle.ct_tree_laws.specs.declared.rise.Separator.{Separator};
@@ -26,4 +27,12 @@ pub fn half_split_is_not_reached()
     ensures no_link { (w : World) (at : Root) (t : Tree) (leaves : List ℕ) (right page : ℕ) (node : NodeValue) (link : Link) → IsTree w at t leaves → is_fresh right w ≡ true → page_at w page ≡ Holds node → IsOf t node → is_fresh page w ≡ false → link_of node ≡ Some link → link.page ≡ right → ⊥ }
     ensures no_entry { (w : World) (at : Root) (t : Tree) (leaves : List ℕ) (right page : ℕ) (node : NodeValue) → IsTree w at t leaves → is_fresh right w ≡ true → page_at w page ≡ Holds node → IsOf t node → is_fresh page w ≡ false → node.leaf ≡ false → All (λ (entry : Entry). entry.child ≡ right → ⊥) node.entries }
     ensures no_root { (w : World) (at : Root) (t : Tree) (leaves : List ℕ) (right : ℕ) (row : IndexRow) → IsTree w at t leaves → is_fresh right w ≡ true → row_in at.index (page_at w at.page) ≡ Some row → row.root ≡ right → ⊥ }
+{}
+
+/// A page stands on one level at most. In a tree the right link of a node leads to a page of its
+/// level, and each page below it is one level lower.
+pub fn levels_are_even()
+    ensures one { (w : World) (level other page : ℕ) → IsLevel w level page → IsLevel w other page → level ≡ other }
+    ensures right { (w : World) (at : Root) (t : Tree) (leaves : List ℕ) (page : ℕ) (node : NodeValue) (link : Link) → IsTree w at t leaves → page_at w page ≡ Holds node → IsOf t node → is_fresh page w ≡ false → link_of node ≡ Some link → IsBeside w page link.page }
+    ensures below { (w : World) (at : Root) (t : Tree) (leaves : List ℕ) (page : ℕ) (node : NodeValue) → IsTree w at t leaves → page_at w page ≡ Holds node → IsOf t node → is_fresh page w ≡ false → node.leaf ≡ false → All (λ (entry : Entry). IsOneAbove w page entry.child) node.entries }
 {}

@@ -7,8 +7,9 @@ ghost use Rattle.ct_node.specs.Places.{next_place};
 ghost use Rattle.ct_node.specs.Turns.{OnBusy, CausedTurn};
 ghost use Rattle.ct_tree_laws.specs.Stands.{Stands, Stepped, KeepsKeys};
 ghost use Rattle.ct_tree.specs.Answers.{is_done, TellsFound, IsInTheWay, IsSearchingLeft, found_left};
+ghost use Rattle.ct_tree.specs.Rules.{IsTurned};
 
-use crate::descent::{descend, is_done, start};
+use crate::descent::{descend, is_done, leads_to, start};
 use ct_disk::Turn;
 use ct_node::{Node, Nodes, Pair, Place, Target};
 use ct_tree_laws::{Stage, Walk, Way};
@@ -21,10 +22,12 @@ pub(crate) fn left_step<N: Nodes>(
     or_at: bool,
     stage: Stage,
     nodes: &mut N,
+    node: &mut Node,
 ) -> (Stage, Turn<()>, Option<Pair>)
     requires stands { Stands walk.now stage (N.world nodes.old) }
     requires open { IsSearchingLeft or_at stage }
     ensures stepped { Stepped walk.now result.0 (N.world nodes.old) (N.world nodes.new) }
+    ensures rule { IsTurned result.1 walk.now (N.world nodes.old) (N.world nodes.new) (N.left nodes.old) (N.left nodes.new) stage result.0 }
     ensures keys { KeepsKeys (N.world nodes.old) (N.world nodes.new) }
     ensures found { TellsFound walk.now (found_left or_at) result.1 result.2 (N.world nodes.old) }
     ensures searching { IsSearchingLeft or_at result.0 }
@@ -34,14 +37,14 @@ pub(crate) fn left_step<N: Nodes>(
 {
     match stage {
         Stage::Start => return going(start(walk, nodes)),
-        Stage::Down { page } => return going(descend(walk, nodes, page)),
+        Stage::Down { page } => return going(descend(walk, nodes, page, node)),
         Stage::Leaf { page } => return going(share_first(walk, nodes, page)),
-        Stage::SharedLeft { page } => return look_first(alloc, walk, or_at, nodes, page),
+        Stage::SharedLeft { page } => return look_first(alloc, walk, or_at, nodes, page, node),
         Stage::Left {
             low,
             or_at: over,
             way,
-        } => return go_left(alloc, walk, over, nodes, low, way),
+        } => return go_left(alloc, walk, over, nodes, low, way, node),
         Stage::Held { page: _ } => unreachable!(),
         Stage::Full { page: _ } => unreachable!(),
         Stage::Split { page: _, right: _ } => unreachable!(),
@@ -68,6 +71,7 @@ fn going(step: (Stage, Turn<()>)) -> (Stage, Turn<()>, Option<Pair>)
 fn share_first<N: Nodes>(walk: &Walk, nodes: &mut N, page: u64) -> (Stage, Turn<()>)
     requires { Stands walk.now (Stage.Leaf page) (N.world nodes.old) }
     ensures stepped { Stepped walk.now result.0 (N.world nodes.old) (N.world nodes.new) }
+    ensures rule { IsTurned result.1 walk.now (N.world nodes.old) (N.world nodes.new) (N.left nodes.old) (N.left nodes.new) (Stage.Leaf page) result.0 }
     ensures keys { KeepsKeys (N.world nodes.old) (N.world nodes.new) }
     ensures going { is_done result.1 ≡ false }
     ensures searching { (or_at : _) → IsSearchingLeft or_at result.0 }
@@ -91,9 +95,11 @@ fn look_first<N: Nodes>(
     or_at: bool,
     nodes: &mut N,
     page: u64,
+    node: &mut Node,
 ) -> (Stage, Turn<()>, Option<Pair>)
     requires { Stands walk.now (Stage.SharedLeft page) (N.world nodes.old) }
     ensures stepped { Stepped walk.now result.0 (N.world nodes.old) (N.world nodes.new) }
+    ensures rule { IsTurned result.1 walk.now (N.world nodes.old) (N.world nodes.new) (N.left nodes.old) (N.left nodes.new) (Stage.SharedLeft page) result.0 }
     ensures keys { KeepsKeys (N.world nodes.old) (N.world nodes.new) }
     ensures found { TellsFound walk.now (found_left or_at) result.1 result.2 (N.world nodes.old) }
     ensures searching { IsSearchingLeft or_at result.0 }
@@ -101,8 +107,7 @@ fn look_first<N: Nodes>(
     ensures busy { OnBusy result.1 (IsInTheWay (N.flushes nodes.old) (N.world nodes.old) walk.now.op) }
     ensures cause { CausedTurn result.1 (N.faults nodes.old) (N.faults nodes.new) (N.halted nodes.old) (N.halted nodes.new) }
 {
-    let mut node = Node::new(0, 0, true, 1);
-    let seen = nodes.look(walk.op, page, &mut node);
+    let seen = nodes.look(walk.op, page, node);
     if !is_done(&seen) {
         return (Stage::SharedLeft { page }, seen, None);
     }
@@ -132,9 +137,11 @@ fn go_left<N: Nodes>(
     nodes: &mut N,
     low: Pair,
     way: Way,
+    node: &mut Node,
 ) -> (Stage, Turn<()>, Option<Pair>)
     requires { Stands walk.now (Stage.Left low or_at way) (N.world nodes.old) }
     ensures stepped { Stepped walk.now result.0 (N.world nodes.old) (N.world nodes.new) }
+    ensures rule { IsTurned result.1 walk.now (N.world nodes.old) (N.world nodes.new) (N.left nodes.old) (N.left nodes.new) (Stage.Left low or_at way) result.0 }
     ensures keys { KeepsKeys (N.world nodes.old) (N.world nodes.new) }
     ensures found { TellsFound walk.now (found_left or_at) result.1 result.2 (N.world nodes.old) }
     ensures searching { IsSearchingLeft or_at result.0 }
@@ -144,9 +151,9 @@ fn go_left<N: Nodes>(
 {
     match way {
         Way::Start => return going(start_left(walk, or_at, nodes, low)),
-        Way::Down { page } => return going(descend_left(walk, or_at, nodes, low, page)),
+        Way::Down { page } => return going(descend_left(walk, or_at, nodes, low, page, node)),
         Way::Leaf { page } => return going(share_left(walk, or_at, nodes, low, page)),
-        Way::Shared { page } => return look_left(alloc, walk, or_at, nodes, low, page),
+        Way::Shared { page } => return look_left(alloc, walk, or_at, nodes, low, page, node),
     }
 }
 
@@ -154,6 +161,7 @@ fn go_left<N: Nodes>(
 fn start_left<N: Nodes>(walk: &Walk, or_at: bool, nodes: &mut N, low: Pair) -> (Stage, Turn<()>)
     requires { Stands walk.now (Stage.Left low or_at Way.Start) (N.world nodes.old) }
     ensures stepped { Stepped walk.now result.0 (N.world nodes.old) (N.world nodes.new) }
+    ensures rule { IsTurned result.1 walk.now (N.world nodes.old) (N.world nodes.new) (N.left nodes.old) (N.left nodes.new) (Stage.Left low or_at Way.Start) result.0 }
     ensures keys { KeepsKeys (N.world nodes.old) (N.world nodes.new) }
     ensures going { is_done result.1 ≡ false }
     ensures searching { IsSearchingLeft or_at result.0 }
@@ -195,9 +203,11 @@ fn descend_left<N: Nodes>(
     nodes: &mut N,
     low: Pair,
     page: u64,
+    node: &mut Node,
 ) -> (Stage, Turn<()>)
     requires { Stands walk.now (Stage.Left low or_at (Way.Down page)) (N.world nodes.old) }
     ensures stepped { Stepped walk.now result.0 (N.world nodes.old) (N.world nodes.new) }
+    ensures rule { IsTurned result.1 walk.now (N.world nodes.old) (N.world nodes.new) (N.left nodes.old) (N.left nodes.new) (Stage.Left low or_at (Way.Down page)) result.0 }
     ensures keys { KeepsKeys (N.world nodes.old) (N.world nodes.new) }
     ensures going { is_done result.1 ≡ false }
     ensures searching { IsSearchingLeft or_at result.0 }
@@ -205,13 +215,19 @@ fn descend_left<N: Nodes>(
     ensures busy { OnBusy result.1 (IsInTheWay (N.flushes nodes.old) (N.world nodes.old) walk.now.op) }
     ensures cause { CausedTurn result.1 (N.faults nodes.old) (N.faults nodes.new) (N.halted nodes.old) (N.halted nodes.new) }
 {
-    let mut node = Node::new(0, 0, true, 1);
-    let seen = nodes.look(walk.op, page, &mut node);
+    let seen = nodes.look(walk.op, page, node);
     if !is_done(&seen) {
         let way = Way::Down { page };
         return (Stage::Left { low, or_at, way }, seen);
     }
-    let (place, low) = next_before(&node, low);
+    let (place, low) = next_before(node, low);
+    if leads_to(place, page) {
+        let way = Way::Down { page };
+        return (
+            Stage::Left { low, or_at, way },
+            Turn::Refused(nodes.bad(page)),
+        );
+    }
     match place {
         Place::Right(right) => {
             let way = Way::Down { page: right };
@@ -249,6 +265,7 @@ fn share_left<N: Nodes>(
 ) -> (Stage, Turn<()>)
     requires { Stands walk.now (Stage.Left low or_at (Way.Leaf page)) (N.world nodes.old) }
     ensures stepped { Stepped walk.now result.0 (N.world nodes.old) (N.world nodes.new) }
+    ensures rule { IsTurned result.1 walk.now (N.world nodes.old) (N.world nodes.new) (N.left nodes.old) (N.left nodes.new) (Stage.Left low or_at (Way.Leaf page)) result.0 }
     ensures keys { KeepsKeys (N.world nodes.old) (N.world nodes.new) }
     ensures going { is_done result.1 ≡ false }
     ensures searching { IsSearchingLeft or_at result.0 }
@@ -274,9 +291,11 @@ fn look_left<N: Nodes>(
     nodes: &mut N,
     low: Pair,
     page: u64,
+    node: &mut Node,
 ) -> (Stage, Turn<()>, Option<Pair>)
     requires { Stands walk.now (Stage.Left low or_at (Way.Shared page)) (N.world nodes.old) }
     ensures stepped { Stepped walk.now result.0 (N.world nodes.old) (N.world nodes.new) }
+    ensures rule { IsTurned result.1 walk.now (N.world nodes.old) (N.world nodes.new) (N.left nodes.old) (N.left nodes.new) (Stage.Left low or_at (Way.Shared page)) result.0 }
     ensures keys { KeepsKeys (N.world nodes.old) (N.world nodes.new) }
     ensures found { TellsFound walk.now (found_left or_at) result.1 result.2 (N.world nodes.old) }
     ensures searching { IsSearchingLeft or_at result.0 }
@@ -284,13 +303,12 @@ fn look_left<N: Nodes>(
     ensures busy { OnBusy result.1 (IsInTheWay (N.flushes nodes.old) (N.world nodes.old) walk.now.op) }
     ensures cause { CausedTurn result.1 (N.faults nodes.old) (N.faults nodes.new) (N.halted nodes.old) (N.halted nodes.new) }
 {
-    let mut node = Node::new(0, 0, true, 1);
-    let seen = nodes.look(walk.op, page, &mut node);
+    let seen = nodes.look(walk.op, page, node);
     let way = Way::Shared { page };
     if !is_done(&seen) {
         return (Stage::Left { low, or_at, way }, seen, None);
     }
-    let (place, low) = next_before(&node, low);
+    let (place, low) = next_before(node, low);
     if let Place::Right(right) = place {
         nodes.free(walk.op, page);
         let way = Way::Down { page: right };
@@ -303,6 +321,10 @@ fn look_left<N: Nodes>(
     }
     match node.low(alloc) {
         Some(next) => {
+            if !node.begins_below(&low) {
+                let fault = nodes.bad(page);
+                return (Stage::Left { low, or_at, way }, Turn::Refused(fault), None);
+            }
             let on = Stage::Left {
                 low: next,
                 or_at,

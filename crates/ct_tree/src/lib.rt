@@ -9,6 +9,7 @@ mod left;
 #[cfg(test)]
 mod left_tests;
 mod memory;
+mod moves;
 mod post;
 mod program;
 mod put;
@@ -25,8 +26,9 @@ mod tests;
 
 pub use begin::begins_in_memory;
 pub use ct_tree_laws::{Rise, Separator, Stage, Walk, Way};
-pub use laws::half_split_is_not_reached;
+pub use laws::{half_split_is_not_reached, levels_are_even};
 pub use memory::run_in_memory;
+pub use moves::{Spot, turns_come_to_an_end, walks_go_in_no_circle};
 pub use program::{Answer, Happened, Program, turn};
 pub use put::Put;
 pub use schedule::run;

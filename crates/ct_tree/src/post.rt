@@ -1,7 +1,7 @@
 //! Posting the separator of a split to the level above: the node there found, made the operation's
 //! own, split where it is full, and written.
 
-ghost use Rattle.std.specs.Prelude.{◌≡◌, ◌⊎◌, ◌==◌, ◌&&◌, not, length, IsTrue, false, true};
+ghost use Rattle.std.specs.Prelude.{ℕ, ◌≡◌, ◌⊎◌, ◌==◌, ◌&&◌, not, length, IsTrue, false, true};
 ghost use Rattle.ct_node.specs.declared.target.Target.TheVariants.{At};
 ghost use Rattle.ct_node.specs.Nodes.{is_within};
 ghost use Rattle.ct_node.specs.Places.{next_place};
@@ -10,9 +10,10 @@ ghost use Rattle.ct_node.specs.Turns.{OnBusy, CausedTurn};
 ghost use Rattle.ct_tree_laws.specs.declared.walk.Walk.{Walk};
 ghost use Rattle.ct_tree_laws.specs.Stands.{Stands, Stepped, KeepsKeys, after_post};
 ghost use Rattle.ct_tree.specs.Answers.{is_done, is_above_for, IsInTheWay, IsPutting};
+ghost use Rattle.ct_tree.specs.Rules.{IsTurned, leaves_room};
 
 use crate::crown::{allocate_root, name_again, name_root, own_definition, write_root};
-use crate::descent::is_done;
+use crate::descent::{is_done, leads_to};
 use crate::split_above::{allocate_above, cut_above, own_right, write_above};
 use ct_disk::Turn;
 use ct_node::{Mark, Node, Nodes, Pair, Place, Target};
@@ -29,6 +30,7 @@ pub(crate) fn post<N: Nodes>(
 ) -> (Stage, Turn<()>)
     requires { Stands walk.now (Stage.Post separator rise) (N.world nodes.old) }
     ensures stepped { Stepped walk.now result.0 (N.world nodes.old) (N.world nodes.new) }
+    ensures rule { IsTurned result.1 walk.now (N.world nodes.old) (N.world nodes.new) (N.left nodes.old) (N.left nodes.new) (Stage.Post separator rise) result.0 }
     ensures keys { KeepsKeys (N.world nodes.old) (N.world nodes.new) }
     ensures going { is_done result.1 ≡ false }
     ensures putting { IsPutting result.0 }
@@ -61,6 +63,7 @@ pub(crate) fn read_root<N: Nodes>(
 ) -> (Stage, Turn<()>)
     requires { Stands walk.now (Stage.Post separator Rise.Root) (N.world nodes.old) }
     ensures stepped { Stepped walk.now result.0 (N.world nodes.old) (N.world nodes.new) }
+    ensures rule { IsTurned result.1 walk.now (N.world nodes.old) (N.world nodes.new) (N.left nodes.old) (N.left nodes.new) (Stage.Post separator Rise.Root) result.0 }
     ensures keys { KeepsKeys (N.world nodes.old) (N.world nodes.new) }
     ensures going { is_done result.1 ≡ false }
     ensures putting { IsPutting result.0 }
@@ -123,6 +126,7 @@ pub(crate) fn find_above<N: Nodes>(
 ) -> (Stage, Turn<()>)
     requires { Stands walk.now (Stage.Post separator (Rise.Down page above)) (N.world nodes.old) }
     ensures stepped { Stepped walk.now result.0 (N.world nodes.old) (N.world nodes.new) }
+    ensures rule { IsTurned result.1 walk.now (N.world nodes.old) (N.world nodes.new) (N.left nodes.old) (N.left nodes.new) (Stage.Post separator (Rise.Down page above)) result.0 }
     ensures keys { KeepsKeys (N.world nodes.old) (N.world nodes.new) }
     ensures going { is_done result.1 ≡ false }
     ensures putting { IsPutting result.0 }
@@ -144,6 +148,11 @@ pub(crate) fn find_above<N: Nodes>(
     let Separator { low, child, left } = separator;
     let (place, low) = place_of(&node, low);
     let separator = Separator { low, child, left };
+    if leads_to(place, page) {
+        let fault = nodes.bad(page);
+        let rise = Rise::Down { page, above };
+        return (Stage::Post { separator, rise }, Turn::Refused(fault));
+    }
     match place {
         Place::Right(right) => return (on_way(separator, right, above), Turn::More),
         Place::Down(below) => return (on_way(separator, below, Some(page)), Turn::More),
@@ -178,6 +187,7 @@ fn place_of(node: &Node, pair: Pair) -> (Place, Pair)
 fn on_way(separator: Separator, page: u64, above: Option<u64>) -> Stage
     ensures stands { (walk : Walk) (w : World) → Stands walk (Stage.Post separator (Rise.Down page above)) w → Stands walk result w }
     ensures putting { IsPutting result }
+    ensures goes { (result ≡ Stage.Start) ⊎ ((result ≡ Stage.Post separator (Rise.Down page above)) ⊎ ((over : ℕ) × (result ≡ Stage.Post separator (Rise.Above over)))) }
 {
     if page != separator.child {
         return Stage::Post {
@@ -203,6 +213,7 @@ pub(crate) fn own_above<N: Nodes>(
 ) -> (Stage, Turn<()>)
     requires { Stands walk.now (Stage.Post separator (Rise.Above page)) (N.world nodes.old) }
     ensures stepped { Stepped walk.now result.0 (N.world nodes.old) (N.world nodes.new) }
+    ensures rule { IsTurned result.1 walk.now (N.world nodes.old) (N.world nodes.new) (N.left nodes.old) (N.left nodes.new) (Stage.Post separator (Rise.Above page)) result.0 }
     ensures keys { KeepsKeys (N.world nodes.old) (N.world nodes.new) }
     ensures going { is_done result.1 ≡ false }
     ensures putting { IsPutting result.0 }
@@ -247,6 +258,7 @@ pub(crate) fn post_held<N: Nodes>(
 ) -> (Stage, Turn<()>)
     requires { Stands walk.now (Stage.Post separator (Rise.Held page next)) (N.world nodes.old) }
     ensures stepped { Stepped walk.now result.0 (N.world nodes.old) (N.world nodes.new) }
+    ensures rule { IsTurned result.1 walk.now (N.world nodes.old) (N.world nodes.new) (N.left nodes.old) (N.left nodes.new) (Stage.Post separator (Rise.Held page next)) result.0 }
     ensures keys { KeepsKeys (N.world nodes.old) (N.world nodes.new) }
     ensures going { is_done result.1 ≡ false }
     ensures putting { IsPutting result.0 }
@@ -301,6 +313,7 @@ fn post_within<N: Nodes>(
     requires seen { page_at (N.world nodes.old) page ≡ Holds node.old }
     requires within { is_within node.old.low node.old.high separator.low ≡ true }
     ensures stepped { Stepped walk.now result.0 (N.world nodes.old) (N.world nodes.new) }
+    ensures rule { IsTurned result.1 walk.now (N.world nodes.old) (N.world nodes.new) (N.left nodes.old) (N.left nodes.new) (Stage.Post separator (Rise.Held page next)) result.0 }
     ensures keys { KeepsKeys (N.world nodes.old) (N.world nodes.new) }
     ensures going { is_done result.1 ≡ false }
     ensures putting { IsPutting result.0 }
@@ -342,6 +355,16 @@ fn post_within<N: Nodes>(
         );
     }
     node.post(&separator.low, separator.child);
+    if !leaves_room(&next, node) {
+        let fault = nodes.bad(page);
+        return (
+            Stage::Post {
+                separator,
+                rise: Rise::Held { page, next },
+            },
+            Turn::Refused(fault),
+        );
+    }
     let _count = node.count();
     let edited = nodes.edit(walk.op, page, node, Mark::NONE);
     if !is_done(&edited) {
@@ -355,6 +378,17 @@ fn post_within<N: Nodes>(
     }
     nodes.free(walk.op, page);
     (after_post(next), Turn::More)
+}
+
+/// Whether a node has room for one more entry, where another separator is to be posted next: it is
+/// then a half of a split.
+fn leaves_room(next: &Option<Separator>, node: &Node) -> bool
+    ensures { result ≡ leaves_room next.now node.now }
+{
+    match next {
+        None => return true,
+        Some(_) => return node.fits(),
+    }
 }
 
 /// Where a put goes on once a separator is posted: with the next one, or anew with its pair.

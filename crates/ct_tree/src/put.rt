@@ -3,11 +3,16 @@
 ghost use Rattle.std.specs.Prelude.{◌≡◌, ◌≤◌, ◌==◌, ◌&&◌, IsTrue, false, true, length};
 ghost use Rattle.ct_node.specs.Places.{is_past};
 ghost use Rattle.ct_node.specs.Worlds.{Holds, page_at};
-ghost use Rattle.ct_node.specs.Turns.{OnDone, OnBusy, CausedTurn};
+ghost use Rattle.ct_node.specs.Turns.{OnDone, OnBusy, CausedTurn, OnMore};
 ghost use Rattle.ct_tree_laws.specs.Stands.{Stands, Stepped, HasNone};
 ghost use Rattle.ct_tree.specs.Answers.{IsPair, PutsKeys, IsInTheWay, IsPutting, GoesOn, BearsPut};
+ghost use Rattle.ct_tree.specs.Rules.{IsTurned};
+ghost use Rattle.ct_tree.specs.Moves.{spot_of, moves_after};
+ghost use Rattle.ct_tree.specs.Counted.{IsCounted};
+ghost use Rattle.ct_tree.specs.Ends.{left_of, IsLess};
 
 use crate::descent::{descend, is_done, is_for, own_leaf, start};
+use crate::moves::{circle_at, moves_after, spot_of};
 use crate::post::post;
 use crate::split::{allocate, cut_left, write_right};
 use ct_disk::Turn;
@@ -23,6 +28,9 @@ pub struct Put {
     pub walk: Walk,
     pub mark: Mark,
     pub stage: Stage,
+    /// How many moves to another page the walk that is under way has made.
+    pub moves: u64,
+    node: Node,
 }
 
 impl Put {
@@ -33,12 +41,15 @@ impl Put {
         ensures walk { result.walk ≡ record { op = op; at = at; target = target } }
         ensures mark { result.mark ≡ mark }
         ensures stage { result.stage ≡ Stage.Start }
+        ensures moves { result.moves ≡ 0 }
     {
         Put {
             alloc,
             walk: Walk { op, at, target },
             mark,
             stage: Stage::Start,
+            moves: 0,
+            node: Node::new(0, 0, true, 1),
         }
     }
 
@@ -49,9 +60,14 @@ impl Put {
         requires pair { IsPair self.old.walk.target }
         requires open { IsPutting self.old.stage }
         requires mark { N.allows nodes.old self.old.walk.op self.old.mark }
+        requires counted { IsCounted self.old.stage self.old.moves (N.world nodes.old) }
         ensures walk { self.new.walk ≡ self.old.walk }
         ensures mark { self.new.mark ≡ self.old.mark }
         ensures stepped { Stepped self.old.walk self.new.stage (N.world nodes.old) (N.world nodes.new) }
+        ensures rule { IsTurned result self.old.walk (N.world nodes.old) (N.world nodes.new) (N.left nodes.old) (N.left nodes.new) self.old.stage self.new.stage }
+        ensures counted { IsCounted self.new.stage self.new.moves (N.world nodes.new) }
+        ensures moves { self.new.moves ≡ moves_after (spot_of self.old.stage) (spot_of self.new.stage) self.old.moves }
+        ensures left { OnMore result (IsLess (left_of self.new.stage self.new.moves (N.world nodes.new) (N.left nodes.new)) (left_of self.old.stage self.old.moves (N.world nodes.old) (N.left nodes.old))) }
         ensures keys { PutsKeys self.old.walk result (N.world nodes.old) (N.world nodes.new) }
         ensures goes { GoesOn result self.new.stage }
         ensures given_back { OnDone result (λ _. IsTrue (N.world nodes.old).founded → HasNone self.old.walk.op (N.world nodes.new)) }
@@ -59,9 +75,22 @@ impl Put {
         ensures busy { OnBusy result (IsInTheWay (N.flushes nodes.old) (N.world nodes.old) self.old.walk.op) }
         ensures cause { CausedTurn result (N.faults nodes.old) (N.faults nodes.new) (N.halted nodes.old) (N.halted nodes.new) }
     {
+        let from = spot_of(&self.stage);
+        let pages = nodes.pages();
+        if let Some(page) = circle_at(from, self.moves, pages) {
+            return Turn::Refused(nodes.bad(page));
+        }
         let stage = replace(&mut self.stage, Stage::Ended);
-        let step = put_step(self.alloc, &self.walk, self.mark, stage, nodes);
+        let step = put_step(
+            self.alloc,
+            &self.walk,
+            self.mark,
+            stage,
+            nodes,
+            &mut self.node,
+        );
         self.stage = step.0;
+        self.moves = moves_after(from, spot_of(&self.stage), self.moves, pages);
         step.1
     }
 }
@@ -73,12 +102,14 @@ fn put_step<N: Nodes>(
     mark: Mark,
     stage: Stage,
     nodes: &mut N,
+    node: &mut Node,
 ) -> (Stage, Turn<()>)
     requires stands { Stands walk.now stage (N.world nodes.old) }
     requires pair { IsPair walk.now.target }
     requires open { IsPutting stage }
     requires mark { N.allows nodes.old walk.now.op mark }
     ensures stepped { Stepped walk.now result.0 (N.world nodes.old) (N.world nodes.new) }
+    ensures rule { IsTurned result.1 walk.now (N.world nodes.old) (N.world nodes.new) (N.left nodes.old) (N.left nodes.new) stage result.0 }
     ensures keys { PutsKeys walk.now result.1 (N.world nodes.old) (N.world nodes.new) }
     ensures goes { GoesOn result.1 result.0 }
     ensures bears { BearsPut walk.now mark result.1 (N.world nodes.old) (N.marked nodes.old) (N.marked nodes.new) }
@@ -87,9 +118,9 @@ fn put_step<N: Nodes>(
 {
     match stage {
         Stage::Start => return start(walk, nodes),
-        Stage::Down { page } => return descend(walk, nodes, page),
+        Stage::Down { page } => return descend(walk, nodes, page, node),
         Stage::Leaf { page } => return own_leaf(walk, nodes, page),
-        Stage::Held { page } => return put_held(walk, mark, nodes, page),
+        Stage::Held { page } => return put_held(walk, mark, nodes, page, node),
         Stage::Full { page } => return allocate(walk, nodes, page),
         Stage::Split { page, right } => return write_right(walk, nodes, page, right),
         Stage::Cut { page, right } => return cut_left(alloc, walk, nodes, page, right),
@@ -113,19 +144,20 @@ pub(crate) fn put_held<N: Nodes>(
     mark: Mark,
     nodes: &mut N,
     page: u64,
+    node: &mut Node,
 ) -> (Stage, Turn<()>)
     requires stands { Stands walk.now (Stage.Held page) (N.world nodes.old) }
     requires pair { IsPair walk.now.target }
     requires mark { N.allows nodes.old walk.now.op mark }
     ensures stepped { Stepped walk.now result.0 (N.world nodes.old) (N.world nodes.new) }
+    ensures rule { IsTurned result.1 walk.now (N.world nodes.old) (N.world nodes.new) (N.left nodes.old) (N.left nodes.new) (Stage.Held page) result.0 }
     ensures keys { PutsKeys walk.now result.1 (N.world nodes.old) (N.world nodes.new) }
     ensures goes { GoesOn result.1 result.0 }
     ensures bears { BearsPut walk.now mark result.1 (N.world nodes.old) (N.marked nodes.old) (N.marked nodes.new) }
     ensures busy { OnBusy result.1 (IsInTheWay (N.flushes nodes.old) (N.world nodes.old) walk.now.op) }
     ensures cause { CausedTurn result.1 (N.faults nodes.old) (N.faults nodes.new) (N.halted nodes.old) (N.halted nodes.new) }
 {
-    let mut node = Node::new(0, 0, true, 1);
-    let seen = nodes.look(walk.op, page, &mut node);
+    let seen = nodes.look(walk.op, page, node);
     if !is_done(&seen) {
         return (Stage::Held { page }, seen);
     }
@@ -135,8 +167,8 @@ pub(crate) fn put_held<N: Nodes>(
             return (Stage::Down { page: right }, Turn::More);
         }
         Place::Down(_) => return (Stage::Held { page }, Turn::Refused(nodes.bad(page))),
-        Place::Here(_) => return put_here(walk, mark, nodes, page, &mut node),
-        Place::End => return put_here(walk, mark, nodes, page, &mut node),
+        Place::Here(_) => return put_here(walk, mark, nodes, page, node),
+        Place::End => return put_here(walk, mark, nodes, page, node),
     }
 }
 
@@ -154,6 +186,7 @@ fn put_here<N: Nodes>(
     requires seen { page_at (N.world nodes.old) page ≡ Holds node.old }
     requires within { is_past node.old.high walk.now.target ≡ false }
     ensures stepped { Stepped walk.now result.0 (N.world nodes.old) (N.world nodes.new) }
+    ensures rule { IsTurned result.1 walk.now (N.world nodes.old) (N.world nodes.new) (N.left nodes.old) (N.left nodes.new) (Stage.Held page) result.0 }
     ensures keys { PutsKeys walk.now result.1 (N.world nodes.old) (N.world nodes.new) }
     ensures goes { GoesOn result.1 result.0 }
     ensures bears { BearsPut walk.now mark result.1 (N.world nodes.old) (N.marked nodes.old) (N.marked nodes.new) }

@@ -2,12 +2,17 @@
 //! the right.
 
 ghost use Rattle.std.specs.Prelude.{◌≡◌, ◌≤◌, ◌<◌, IsTrue, false, true, length};
-ghost use Rattle.ct_node.specs.Turns.{OnBusy, CausedTurn};
+ghost use Rattle.ct_node.specs.Turns.{OnBusy, CausedTurn, OnMore};
 ghost use Rattle.ct_tree_laws.specs.Stands.{Stands, Stepped, KeepsKeys, HasNone};
 ghost use Rattle.ct_tree.specs.Answers.{is_done, TellsFound, IsFound, IsInTheWay, IsSearching, IsSeeking, IsSearchingBy, found_right, found_by};
+ghost use Rattle.ct_tree.specs.Rules.{IsTurned, GivesWay};
+ghost use Rattle.ct_tree.specs.Moves.{spot_of, moves_after};
+ghost use Rattle.ct_tree.specs.Counted.{IsCounted};
+ghost use Rattle.ct_tree.specs.Ends.{left_of, IsLess};
 
 use crate::descent::{answer_with, descend, is_done, start};
 use crate::left::left_step;
+use crate::moves::{circle_at, moves_after, spot_of};
 use crate::seek::Seek;
 use ct_disk::Turn;
 use ct_node::{Node, Nodes, Pair, Place, Root, Target};
@@ -22,6 +27,9 @@ pub struct Search {
     pub walk: Walk,
     pub seek: Seek,
     pub stage: Stage,
+    /// How many moves to another page the walk that is under way has made.
+    pub moves: u64,
+    node: Node,
 }
 
 impl Search {
@@ -31,12 +39,15 @@ impl Search {
         ensures walk { result.walk ≡ record { op = op; at = at; target = target } }
         ensures seek { result.seek ≡ seek }
         ensures stage { result.stage ≡ Stage.Start }
+        ensures moves { result.moves ≡ 0 }
     {
         Search {
             alloc,
             walk: Walk { op, at, target },
             seek,
             stage: Stage::Start,
+            moves: 0,
+            node: Node::new(0, 0, true, 1),
         }
     }
 
@@ -46,9 +57,14 @@ impl Search {
     pub fn turn<N: Nodes>(&mut self, nodes: &mut N) -> Turn<Option<Pair>>
         requires stands { Stands self.old.walk self.old.stage (N.world nodes.old) }
         requires open { IsSearchingBy self.old.seek self.old.stage }
+        requires counted { IsCounted self.old.stage self.old.moves (N.world nodes.old) }
         ensures walk { self.new.walk ≡ self.old.walk }
         ensures seek { self.new.seek ≡ self.old.seek }
         ensures stepped { Stepped self.old.walk self.new.stage (N.world nodes.old) (N.world nodes.new) }
+        ensures rule { IsTurned result self.old.walk (N.world nodes.old) (N.world nodes.new) (N.left nodes.old) (N.left nodes.new) self.old.stage self.new.stage }
+        ensures counted { IsCounted self.new.stage self.new.moves (N.world nodes.new) }
+        ensures moves { self.new.moves ≡ moves_after (spot_of self.old.stage) (spot_of self.new.stage) self.old.moves }
+        ensures left { OnMore result (IsLess (left_of self.new.stage self.new.moves (N.world nodes.new) (N.left nodes.new)) (left_of self.old.stage self.old.moves (N.world nodes.old) (N.left nodes.old))) }
         ensures keys { KeepsKeys (N.world nodes.old) (N.world nodes.new) }
         ensures found { IsFound self.old.walk (found_by self.old.seek) result (N.world nodes.old) }
         ensures open { IsSearchingBy self.new.seek self.new.stage }
@@ -57,9 +73,22 @@ impl Search {
         ensures given_back { OnBusy result (λ _. HasNone self.old.walk.op (N.world nodes.new)) }
         ensures cause { CausedTurn result (N.faults nodes.old) (N.faults nodes.new) (N.halted nodes.old) (N.halted nodes.new) }
     {
+        let from = spot_of(&self.stage);
+        let pages = nodes.pages();
+        if let Some(page) = circle_at(from, self.moves, pages) {
+            return Turn::Refused(nodes.bad(page));
+        }
         let stage = replace(&mut self.stage, Stage::Ended);
-        let step = seek_step(self.alloc, &self.walk, self.seek, stage, nodes);
+        let step = seek_step(
+            self.alloc,
+            &self.walk,
+            self.seek,
+            stage,
+            nodes,
+            &mut self.node,
+        );
         self.stage = give_way(&self.walk, self.seek, step.0, &step.1, nodes);
+        self.moves = moves_after(from, spot_of(&self.stage), self.moves, pages);
         answer_with(step.1, step.2)
     }
 
@@ -70,6 +99,7 @@ impl Search {
         ensures walk { self.new.walk ≡ self.old.walk }
         ensures seek { self.new.seek ≡ self.old.seek }
         ensures ended { self.new.stage ≡ Stage.Ended }
+        ensures moves { self.new.moves ≡ 0 }
         ensures stepped { Stepped self.old.walk self.new.stage (N.world nodes.old) (N.world nodes.new) }
         ensures keys { KeepsKeys (N.world nodes.old) (N.world nodes.new) }
         ensures given_back { HasNone self.old.walk.op (N.world nodes.new) }
@@ -78,6 +108,7 @@ impl Search {
     {
         nodes.free_all(self.walk.op);
         self.stage = Stage::Ended;
+        self.moves = 0;
     }
 }
 
@@ -88,10 +119,12 @@ fn seek_step<N: Nodes>(
     seek: Seek,
     stage: Stage,
     nodes: &mut N,
+    node: &mut Node,
 ) -> (Stage, Turn<()>, Option<Pair>)
     requires stands { Stands walk.now stage (N.world nodes.old) }
     requires open { IsSearchingBy seek stage }
     ensures stepped { Stepped walk.now result.0 (N.world nodes.old) (N.world nodes.new) }
+    ensures rule { IsTurned result.1 walk.now (N.world nodes.old) (N.world nodes.new) (N.left nodes.old) (N.left nodes.new) stage result.0 }
     ensures keys { KeepsKeys (N.world nodes.old) (N.world nodes.new) }
     ensures found { TellsFound walk.now (found_by seek) result.1 result.2 (N.world nodes.old) }
     ensures searching { IsSearchingBy seek result.0 }
@@ -100,10 +133,10 @@ fn seek_step<N: Nodes>(
     ensures cause { CausedTurn result.1 (N.faults nodes.old) (N.faults nodes.new) (N.halted nodes.old) (N.halted nodes.new) }
 {
     match seek {
-        Seek::AtOrAbove => return search_step(alloc, walk, false, stage, nodes),
-        Seek::Above => return search_step(alloc, walk, true, stage, nodes),
-        Seek::AtOrBelow => return left_step(alloc, walk, true, stage, nodes),
-        Seek::Below => return left_step(alloc, walk, false, stage, nodes),
+        Seek::AtOrAbove => return search_step(alloc, walk, false, stage, nodes, node),
+        Seek::Above => return search_step(alloc, walk, true, stage, nodes, node),
+        Seek::AtOrBelow => return left_step(alloc, walk, true, stage, nodes, node),
+        Seek::Below => return left_step(alloc, walk, false, stage, nodes, node),
     }
 }
 
@@ -116,6 +149,7 @@ fn give_way<N: Nodes>(walk: &Walk, seek: Seek, to: Stage, turn: &Turn<()>, nodes
     ensures searching { IsSearchingBy seek result }
     ensures given_back { OnBusy turn.now (λ _. HasNone walk.now.op (N.world nodes.new)) }
     ensures bears { N.marked nodes.new ≡ N.marked nodes.old }
+    ensures gives_way { GivesWay turn.now (N.world nodes.old) (N.world nodes.new) (N.left nodes.old) (N.left nodes.new) to result }
     ensures faults { N.faults nodes.new ≡ N.faults nodes.old }
     ensures halted { N.halted nodes.new ≡ N.halted nodes.old }
 {
@@ -137,10 +171,12 @@ fn search_step<N: Nodes>(
     above: bool,
     stage: Stage,
     nodes: &mut N,
+    node: &mut Node,
 ) -> (Stage, Turn<()>, Option<Pair>)
     requires stands { Stands walk.now stage (N.world nodes.old) }
     requires open { IsSearching above stage }
     ensures stepped { Stepped walk.now result.0 (N.world nodes.old) (N.world nodes.new) }
+    ensures rule { IsTurned result.1 walk.now (N.world nodes.old) (N.world nodes.new) (N.left nodes.old) (N.left nodes.new) stage result.0 }
     ensures keys { KeepsKeys (N.world nodes.old) (N.world nodes.new) }
     ensures found { TellsFound walk.now (found_right above) result.1 result.2 (N.world nodes.old) }
     ensures searching { IsSearching above result.0 }
@@ -149,17 +185,24 @@ fn search_step<N: Nodes>(
     ensures cause { CausedTurn result.1 (N.faults nodes.old) (N.faults nodes.new) (N.halted nodes.old) (N.halted nodes.new) }
 {
     if let Stage::Shared { page, above: over } = stage {
-        return look_shared(alloc, walk, over, nodes, page);
+        return look_shared(alloc, walk, over, nodes, page, node);
     }
-    let step = find_shared(walk, above, stage, nodes);
+    let step = find_shared(walk, above, stage, nodes, node);
     (step.0, step.1, None)
 }
 
 /// One turn on the way to a leaf that is to be shared.
-fn find_shared<N: Nodes>(walk: &Walk, above: bool, stage: Stage, nodes: &mut N) -> (Stage, Turn<()>)
+fn find_shared<N: Nodes>(
+    walk: &Walk,
+    above: bool,
+    stage: Stage,
+    nodes: &mut N,
+    node: &mut Node,
+) -> (Stage, Turn<()>)
     requires stands { Stands walk.now stage (N.world nodes.old) }
     requires open { IsSeeking above stage }
     ensures stepped { Stepped walk.now result.0 (N.world nodes.old) (N.world nodes.new) }
+    ensures rule { IsTurned result.1 walk.now (N.world nodes.old) (N.world nodes.new) (N.left nodes.old) (N.left nodes.new) stage result.0 }
     ensures keys { KeepsKeys (N.world nodes.old) (N.world nodes.new) }
     ensures going { is_done result.1 ≡ false }
     ensures searching { IsSearching above result.0 }
@@ -169,7 +212,7 @@ fn find_shared<N: Nodes>(walk: &Walk, above: bool, stage: Stage, nodes: &mut N) 
 {
     match stage {
         Stage::Start => return start(walk, nodes),
-        Stage::Down { page } => return descend(walk, nodes, page),
+        Stage::Down { page } => return descend(walk, nodes, page, node),
         Stage::Leaf { page } => return share_leaf(walk, above, nodes, page),
         Stage::Share { page, above: over } => return share_next(walk, over, nodes, page),
         Stage::Held { page: _ } => unreachable!(),
@@ -200,6 +243,7 @@ pub(crate) fn share_leaf<N: Nodes>(
 ) -> (Stage, Turn<()>)
     requires { Stands walk.now (Stage.Leaf page) (N.world nodes.old) }
     ensures stepped { Stepped walk.now result.0 (N.world nodes.old) (N.world nodes.new) }
+    ensures rule { IsTurned result.1 walk.now (N.world nodes.old) (N.world nodes.new) (N.left nodes.old) (N.left nodes.new) (Stage.Leaf page) result.0 }
     ensures keys { KeepsKeys (N.world nodes.old) (N.world nodes.new) }
     ensures going { is_done result.1 ≡ false }
     ensures searching { IsSearching above result.0 }
@@ -224,6 +268,7 @@ pub(crate) fn share_next<N: Nodes>(
 ) -> (Stage, Turn<()>)
     requires { Stands walk.now (Stage.Share page above) (N.world nodes.old) }
     ensures stepped { Stepped walk.now result.0 (N.world nodes.old) (N.world nodes.new) }
+    ensures rule { IsTurned result.1 walk.now (N.world nodes.old) (N.world nodes.new) (N.left nodes.old) (N.left nodes.new) (Stage.Share page above) result.0 }
     ensures keys { KeepsKeys (N.world nodes.old) (N.world nodes.new) }
     ensures going { is_done result.1 ≡ false }
     ensures searching { IsSearching above result.0 }
@@ -247,9 +292,11 @@ pub(crate) fn look_shared<N: Nodes>(
     above: bool,
     nodes: &mut N,
     page: u64,
+    node: &mut Node,
 ) -> (Stage, Turn<()>, Option<Pair>)
     requires { Stands walk.now (Stage.Shared page above) (N.world nodes.old) }
     ensures stepped { Stepped walk.now result.0 (N.world nodes.old) (N.world nodes.new) }
+    ensures rule { IsTurned result.1 walk.now (N.world nodes.old) (N.world nodes.new) (N.left nodes.old) (N.left nodes.new) (Stage.Shared page above) result.0 }
     ensures keys { KeepsKeys (N.world nodes.old) (N.world nodes.new) }
     ensures found { TellsFound walk.now (found_right above) result.1 result.2 (N.world nodes.old) }
     ensures searching { IsSearching above result.0 }
@@ -257,8 +304,7 @@ pub(crate) fn look_shared<N: Nodes>(
     ensures busy { OnBusy result.1 (IsInTheWay (N.flushes nodes.old) (N.world nodes.old) walk.now.op) }
     ensures cause { CausedTurn result.1 (N.faults nodes.old) (N.faults nodes.new) (N.halted nodes.old) (N.halted nodes.new) }
 {
-    let mut node = Node::new(0, 0, true, 1);
-    let seen = nodes.look(walk.op, page, &mut node);
+    let seen = nodes.look(walk.op, page, node);
     if !is_done(&seen) {
         return (Stage::Shared { page, above }, seen, None);
     }

@@ -1,11 +1,13 @@
 //! The split of a full leaf in three moves: a page is allocated, the right half written into it,
 //! and the left node cut.
 
-ghost use Rattle.std.specs.Prelude.{◌≡◌, ◌⊎◌, IsTrue, false, true};
+ghost use Rattle.std.specs.Prelude.{◌≡◌, ◌⊎◌, ◌≤◌, IsTrue, false, true, length};
+ghost use Rattle.ct_node.specs.Nodes.{IsNode};
 ghost use Rattle.ct_node.specs.Worlds.{no_mark};
 ghost use Rattle.ct_node.specs.Turns.{OnBusy, CausedTurn};
 ghost use Rattle.ct_tree_laws.specs.Stands.{Stands, Stepped, KeepsKeys};
 ghost use Rattle.ct_tree.specs.Answers.{is_done, IsInTheWay, IsPutting};
+ghost use Rattle.ct_tree.specs.Rules.{IsTurned, is_full};
 
 use crate::descent::is_done;
 use ct_disk::Turn;
@@ -17,6 +19,7 @@ use std::alloc::Global;
 pub(crate) fn allocate<N: Nodes>(walk: &Walk, nodes: &mut N, page: u64) -> (Stage, Turn<()>)
     requires { Stands walk.now (Stage.Full page) (N.world nodes.old) }
     ensures stepped { Stepped walk.now result.0 (N.world nodes.old) (N.world nodes.new) }
+    ensures rule { IsTurned result.1 walk.now (N.world nodes.old) (N.world nodes.new) (N.left nodes.old) (N.left nodes.new) (Stage.Full page) result.0 }
     ensures keys { KeepsKeys (N.world nodes.old) (N.world nodes.new) }
     ensures going { is_done result.1 ≡ false }
     ensures putting { IsPutting result.0 }
@@ -41,6 +44,7 @@ pub(crate) fn write_right<N: Nodes>(
 ) -> (Stage, Turn<()>)
     requires { Stands walk.now (Stage.Split page right) (N.world nodes.old) }
     ensures stepped { Stepped walk.now result.0 (N.world nodes.old) (N.world nodes.new) }
+    ensures rule { IsTurned result.1 walk.now (N.world nodes.old) (N.world nodes.new) (N.left nodes.old) (N.left nodes.new) (Stage.Split page right) result.0 }
     ensures keys { KeepsKeys (N.world nodes.old) (N.world nodes.new) }
     ensures going { is_done result.1 ≡ false }
     ensures putting { IsPutting result.0 }
@@ -65,6 +69,16 @@ pub(crate) fn write_right<N: Nodes>(
     (Stage::Cut { page, right }, Turn::More)
 }
 
+/// Whether a node has no room for one more entry, and so has two or more.
+pub(crate) fn is_full(node: &Node) -> bool
+    ensures full { result ≡ is_full node.now }
+    ensures enough { result ≡ true → 2 ≤ length node.now.entries }
+    ensures node { IsNode node.now }
+{
+    let _count = node.count();
+    !node.fits()
+}
+
 /// Cuts the left node, and gives it back: its right link leads to the page that was written. The
 /// separator is to be posted then.
 pub(crate) fn cut_left<N: Nodes>(
@@ -76,6 +90,7 @@ pub(crate) fn cut_left<N: Nodes>(
 ) -> (Stage, Turn<()>)
     requires { Stands walk.now (Stage.Cut page right) (N.world nodes.old) }
     ensures stepped { Stepped walk.now result.0 (N.world nodes.old) (N.world nodes.new) }
+    ensures rule { IsTurned result.1 walk.now (N.world nodes.old) (N.world nodes.new) (N.left nodes.old) (N.left nodes.new) (Stage.Cut page right) result.0 }
     ensures keys { KeepsKeys (N.world nodes.old) (N.world nodes.new) }
     ensures going { is_done result.1 ≡ false }
     ensures putting { IsPutting result.0 }
@@ -88,7 +103,10 @@ pub(crate) fn cut_left<N: Nodes>(
     if !is_done(&seen) {
         return (Stage::Cut { page, right }, seen);
     }
-    if node.count() < 2 {
+    if !node.is_leaf() {
+        return (Stage::Cut { page, right }, Turn::Refused(nodes.bad(page)));
+    }
+    if !is_full(&node) {
         return (Stage::Cut { page, right }, Turn::Refused(nodes.bad(page)));
     }
     let low = node.pair(alloc, node.count() / 2);

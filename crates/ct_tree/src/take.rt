@@ -3,11 +3,16 @@
 ghost use Rattle.std.specs.Prelude.{◌≡◌, ◌≤◌, ◌==◌, ◌&&◌, IsTrue, false, true, length};
 ghost use Rattle.ct_node.specs.Places.{is_past};
 ghost use Rattle.ct_node.specs.Worlds.{Holds, page_at};
-ghost use Rattle.ct_node.specs.Turns.{OnDone, OnBusy, CausedTurn};
+ghost use Rattle.ct_node.specs.Turns.{OnDone, OnBusy, CausedTurn, OnMore};
 ghost use Rattle.ct_tree_laws.specs.Stands.{Stands, Stepped, HasNone};
 ghost use Rattle.ct_tree.specs.Answers.{IsPair, TakesKeys, TellsTaken, TakenKeys, IsTaken, IsInTheWay, IsTaking, TakeGoesOn, BearsTake, BearsTaken};
+ghost use Rattle.ct_tree.specs.Rules.{IsTurned};
+ghost use Rattle.ct_tree.specs.Moves.{spot_of, moves_after};
+ghost use Rattle.ct_tree.specs.Counted.{IsCounted};
+ghost use Rattle.ct_tree.specs.Ends.{left_of, IsLess};
 
 use crate::descent::{answer_with, find_leaf, is_done, is_for};
+use crate::moves::{circle_at, moves_after, spot_of};
 use ct_disk::Turn;
 use ct_node::{Mark, Node, Nodes, Place, Root, Target};
 use ct_tree_laws::{Stage, Walk};
@@ -19,6 +24,9 @@ pub struct Take {
     pub walk: Walk,
     pub mark: Mark,
     pub stage: Stage,
+    /// How many moves to another page the walk that is under way has made.
+    pub moves: u64,
+    node: Node,
 }
 
 impl Take {
@@ -29,11 +37,14 @@ impl Take {
         ensures walk { result.walk ≡ record { op = op; at = at; target = target } }
         ensures mark { result.mark ≡ mark }
         ensures stage { result.stage ≡ Stage.Start }
+        ensures moves { result.moves ≡ 0 }
     {
         Take {
             walk: Walk { op, at, target },
             mark,
             stage: Stage::Start,
+            moves: 0,
+            node: Node::new(0, 0, true, 1),
         }
     }
 
@@ -44,9 +55,14 @@ impl Take {
         requires pair { IsPair self.old.walk.target }
         requires open { IsTaking self.old.stage }
         requires mark { N.allows nodes.old self.old.walk.op self.old.mark }
+        requires counted { IsCounted self.old.stage self.old.moves (N.world nodes.old) }
         ensures walk { self.new.walk ≡ self.old.walk }
         ensures mark { self.new.mark ≡ self.old.mark }
         ensures stepped { Stepped self.old.walk self.new.stage (N.world nodes.old) (N.world nodes.new) }
+        ensures rule { IsTurned result self.old.walk (N.world nodes.old) (N.world nodes.new) (N.left nodes.old) (N.left nodes.new) self.old.stage self.new.stage }
+        ensures counted { IsCounted self.new.stage self.new.moves (N.world nodes.new) }
+        ensures moves { self.new.moves ≡ moves_after (spot_of self.old.stage) (spot_of self.new.stage) self.old.moves }
+        ensures left { OnMore result (IsLess (left_of self.new.stage self.new.moves (N.world nodes.new) (N.left nodes.new)) (left_of self.old.stage self.old.moves (N.world nodes.old) (N.left nodes.old))) }
         ensures keys { TakenKeys self.old.walk result (N.world nodes.old) (N.world nodes.new) }
         ensures found { IsTaken self.old.walk result (N.world nodes.old) }
         ensures goes { TakeGoesOn result self.new.stage }
@@ -55,9 +71,15 @@ impl Take {
         ensures busy { OnBusy result (IsInTheWay (N.flushes nodes.old) (N.world nodes.old) self.old.walk.op) }
         ensures cause { CausedTurn result (N.faults nodes.old) (N.faults nodes.new) (N.halted nodes.old) (N.halted nodes.new) }
     {
+        let from = spot_of(&self.stage);
+        let pages = nodes.pages();
+        if let Some(page) = circle_at(from, self.moves, pages) {
+            return Turn::Refused(nodes.bad(page));
+        }
         let stage = replace(&mut self.stage, Stage::Ended);
-        let step = take_step(&self.walk, self.mark, stage, nodes);
+        let step = take_step(&self.walk, self.mark, stage, nodes, &mut self.node);
         self.stage = step.0;
+        self.moves = moves_after(from, spot_of(&self.stage), self.moves, pages);
         answer_with(step.1, step.2)
     }
 }
@@ -68,12 +90,14 @@ fn take_step<N: Nodes>(
     mark: Mark,
     stage: Stage,
     nodes: &mut N,
+    node: &mut Node,
 ) -> (Stage, Turn<()>, bool)
     requires stands { Stands walk.now stage (N.world nodes.old) }
     requires pair { IsPair walk.now.target }
     requires open { IsTaking stage }
     requires mark { N.allows nodes.old walk.now.op mark }
     ensures stepped { Stepped walk.now result.0 (N.world nodes.old) (N.world nodes.new) }
+    ensures rule { IsTurned result.1 walk.now (N.world nodes.old) (N.world nodes.new) (N.left nodes.old) (N.left nodes.new) stage result.0 }
     ensures keys { TakesKeys walk.now result.1 (N.world nodes.old) (N.world nodes.new) }
     ensures found { TellsTaken walk.now result.1 result.2 (N.world nodes.old) }
     ensures goes { TakeGoesOn result.1 result.0 }
@@ -82,9 +106,9 @@ fn take_step<N: Nodes>(
     ensures cause { CausedTurn result.1 (N.faults nodes.old) (N.faults nodes.new) (N.halted nodes.old) (N.halted nodes.new) }
 {
     if let Stage::Held { page } = stage {
-        return take_held(walk, mark, nodes, page);
+        return take_held(walk, mark, nodes, page, node);
     }
-    let step = find_leaf(walk, stage, nodes);
+    let step = find_leaf(walk, stage, nodes, node);
     (step.0, step.1, false)
 }
 
@@ -95,11 +119,13 @@ pub(crate) fn take_held<N: Nodes>(
     mark: Mark,
     nodes: &mut N,
     page: u64,
+    node: &mut Node,
 ) -> (Stage, Turn<()>, bool)
     requires stands { Stands walk.now (Stage.Held page) (N.world nodes.old) }
     requires pair { IsPair walk.now.target }
     requires mark { N.allows nodes.old walk.now.op mark }
     ensures stepped { Stepped walk.now result.0 (N.world nodes.old) (N.world nodes.new) }
+    ensures rule { IsTurned result.1 walk.now (N.world nodes.old) (N.world nodes.new) (N.left nodes.old) (N.left nodes.new) (Stage.Held page) result.0 }
     ensures keys { TakesKeys walk.now result.1 (N.world nodes.old) (N.world nodes.new) }
     ensures found { TellsTaken walk.now result.1 result.2 (N.world nodes.old) }
     ensures goes { TakeGoesOn result.1 result.0 }
@@ -107,8 +133,7 @@ pub(crate) fn take_held<N: Nodes>(
     ensures busy { OnBusy result.1 (IsInTheWay (N.flushes nodes.old) (N.world nodes.old) walk.now.op) }
     ensures cause { CausedTurn result.1 (N.faults nodes.old) (N.faults nodes.new) (N.halted nodes.old) (N.halted nodes.new) }
 {
-    let mut node = Node::new(0, 0, true, 1);
-    let seen = nodes.look(walk.op, page, &mut node);
+    let seen = nodes.look(walk.op, page, node);
     if !is_done(&seen) {
         return (Stage::Held { page }, seen, false);
     }
@@ -118,8 +143,8 @@ pub(crate) fn take_held<N: Nodes>(
             return (Stage::Down { page: right }, Turn::More, false);
         }
         Place::Down(_) => return (Stage::Held { page }, Turn::Refused(nodes.bad(page)), false),
-        Place::Here(_) => return take_here(walk, mark, nodes, page, &mut node),
-        Place::End => return take_here(walk, mark, nodes, page, &mut node),
+        Place::Here(_) => return take_here(walk, mark, nodes, page, node),
+        Place::End => return take_here(walk, mark, nodes, page, node),
     }
 }
 
@@ -137,6 +162,7 @@ fn take_here<N: Nodes>(
     requires seen { page_at (N.world nodes.old) page ≡ Holds node.old }
     requires within { is_past node.old.high walk.now.target ≡ false }
     ensures stepped { Stepped walk.now result.0 (N.world nodes.old) (N.world nodes.new) }
+    ensures rule { IsTurned result.1 walk.now (N.world nodes.old) (N.world nodes.new) (N.left nodes.old) (N.left nodes.new) (Stage.Held page) result.0 }
     ensures keys { TakesKeys walk.now result.1 (N.world nodes.old) (N.world nodes.new) }
     ensures found { TellsTaken walk.now result.1 result.2 (N.world nodes.old) }
     ensures goes { TakeGoesOn result.1 result.0 }

@@ -15,13 +15,15 @@ use Rattle.ct_node.specs.Nodes.{Entry, NodeValue, IsNode, pair_in, pairs_in, is_
 use Rattle.ct_node.specs.Roles.{first_of}
 use Rattle.ct_node.specs.Halves.{middle_of, upper_half, lower_half}
 use Rattle.ct_node.specs.Places.{is_past}
-use Rattle.ct_node.specs.Worlds.{World, Defines, Holds, page_at, has_latch, has_fresh, is_fresh, edited, IsHeld}
+use Rattle.ct_node.specs.Worlds.{World, Defines, Holds, page_at, IsLevel, has_latch, has_fresh, is_fresh, edited, IsHeld}
 use Rattle.ct_node.proofs.Orders.{below, same, same_back, same_below, below-trans, above, pair_total}
 use Rattle.ct_node.proofs.HalfLemmas.{middle_within, IsNode-upper_half, IsNode-lower_half}
 use Rattle.ct_node.proofs.Searches.{slice_get-at}
-use Rattle.ct_tree_laws.specs.Trees.{Tree, IsOf, IsAt, Link, link_of, link_in, Rises, IsInner, IsInRole, IsTree, IsApart, IsAmong, Linked, IsLower, IsClear, HasPassed, pairs_in_page, pairs_at, joined}
+use Rattle.ct_tree_laws.specs.Trees.{Tree, IsOf, IsAt, Link, link_of, link_in, Rises, IsInner, IsInRole, IsEven, IsTree, IsApart, IsAmong, Linked, IsLower, IsClear, HasPassed, pairs_in_page, pairs_at, joined}
 use Rattle.ct_tree_laws.proofs.Pages.{page_within, page_at-edited, page_at-edited_other, stays_linked, is_fresh-edited, has_fresh-edited, is_fresh_from, is_linked-edited, IsApart-edited}
-use Rattle.ct_tree_laws.proofs.Kept.{KeepsAt, IsReached, IsInner-kept, IsInRole-kept}
+use Rattle.ct_tree_laws.specs.Stands.{KeepsLevels, KeepsAt}
+use Rattle.ct_tree_laws.proofs.Levels.{KeepsFirst-lower, KeepsLevels-edited, IsEven-kept, IsEven-lower, IsEven-upper, level_of_upper}
+use Rattle.ct_tree_laws.proofs.Kept.{IsEvenAt, IsReached, IsInner-kept, IsInRole-kept}
 use Rattle.ct_tree_laws.proofs.Steps.{IsStep}
 use Rattle.ct_tree_laws.proofs.Chains.{one_node, link_to, Roles}
 use Rattle.ct_tree_laws.proofs.Edits.{not_latched_held, not_theirs_held}
@@ -222,6 +224,9 @@ module _ (op page right : ℕ) (node : NodeValue) (w : World) (apart : IsApart w
             linked = stays_linked op page (lower_half right node) w q at.linked;
           }
 
+  pub KeepsLevels-cut : KeepsLevels w (edited op page (lower_half right node) w)
+  KeepsLevels-cut = KeepsLevels-edited op page node (lower_half right node) w held.is (KeepsFirst-lower right node enough)
+
   right_at : (t : Tree) → IsOf t node → node.key_len ≡ t.key_len → IsAt (edited op page (lower_half right node) w) t node.leaf (Some (middle_pair node)) right
   right_at t of key_len = record { node = upper_half node; is = there; of = record { file = of.file; index = of.index }; key_len = key_len; kind = refl; from = low-upper node enough; linked = right_linked }
 
@@ -301,6 +306,34 @@ module _ (op page right : ℕ) (node : NodeValue) (w : World) (apart : IsApart w
       by_page (inr (inl (one, same))) = subst (IsInRole (edited op page (lower_half right node) w) t) (sym same) (upper_role t roles (let halves = subst (IsOf t) same of in record { file = halves.file; index = halves.index }))
       by_page (inr (inr before)) = IsInRole-kept w (edited op page (lower_half right node) w) t v KeepsAt-cut (roles q v before.is of before.linked)
 
+  -- both halves are on the level of the node that was cut
+  abbrev Levels : World → Tree → Type 0
+  Levels v t = (q : ℕ) (u : NodeValue) → page_at v q ≡ Holds u → IsOf t u → is_fresh q v ≡ false → IsEvenAt v q u
+
+  lower_even : (level : ℕ) → IsLevel w level page → IsEven w level node → IsEven (edited op page (lower_half right node) w) level (lower_half right node)
+  lower_even level at even = IsEven-kept w (edited op page (lower_half right node) w) level (lower_half right node) KeepsLevels-cut (IsEven-lower w level right node (level_of_upper w level page right node enough held.is upper at even) even)
+
+  upper_even : (level : ℕ) → IsEven w level node → IsEven (edited op page (lower_half right node) w) level (upper_half node)
+  upper_even level even = IsEven-kept w (edited op page (lower_half right node) w) level (upper_half node) KeepsLevels-cut (IsEven-upper w level node even)
+
+  Levels-cut : (t : Tree) → Levels w t → Levels (edited op page (lower_half right node) w) t
+  Levels-cut t levels q v is of linked = by_page (from_before q v (record { is = is; linked = linked }))
+    where
+      known : IsOf t node → IsEvenAt w page node
+      known of_node = levels page node held.is of_node held.linked
+
+      by_page : ((q ≡ page) × (v ≡ lower_half right node)) ⊎ (((q ≡ right) × (v ≡ upper_half node)) ⊎ IsReached w q v) → IsEvenAt (edited op page (lower_half right node) w) q v
+      by_page (inl (one, same)) =
+          let found = known (let halves = subst (IsOf t) same of in record { file = halves.file; index = halves.index }) in
+          (found.0, KeepsLevels-cut found.0 q (subst (IsLevel w found.0) (sym one) found.1), subst (IsEven (edited op page (lower_half right node) w) found.0) (sym same) (lower_even found.0 found.1 found.2))
+      by_page (inr (inl (one, same))) =
+          let found = known (let halves = subst (IsOf t) same of in record { file = halves.file; index = halves.index }) in
+          let there_level = level_of_upper w found.0 page right node enough held.is upper found.1 found.2 in
+          (found.0, KeepsLevels-cut found.0 q (subst (IsLevel w found.0) (sym one) there_level), subst (IsEven (edited op page (lower_half right node) w) found.0) (sym same) (upper_even found.0 found.2))
+      by_page (inr (inr before)) =
+          let found = levels q v before.is of before.linked in
+          (found.0, KeepsLevels-cut found.0 q found.1, IsEven-kept w (edited op page (lower_half right node) w) found.0 v KeepsLevels-cut found.2)
+
   all_cut : (t : Tree) (leaves : List ℕ) → ((q : ℕ) (v : NodeValue) → page_at w q ≡ Holds v → IsOf t v → v.leaf ≡ true → is_fresh q w ≡ false → IsAmong q leaves) → (q : ℕ) (v : NodeValue) → page_at (edited op page (lower_half right node) w) q ≡ Holds v → IsOf t v → v.leaf ≡ true → is_fresh q (edited op page (lower_half right node) w) ≡ false → IsAmong q (inserted page right leaves)
   all_cut t leaves all q v is of kind linked = by_page (from_before q v (record { is = is; linked = linked }))
     where
@@ -327,6 +360,7 @@ module _ (op page right : ℕ) (node : NodeValue) (w : World) (apart : IsApart w
     linked = Linked-cut t (link_to None t.first) leaves tree.roles tree.linked;
     all = all_cut t leaves tree.all;
     roles = Roles-cut t tree.roles;
+    levels = Levels-cut t tree.levels;
   }
 
   HasPassed-cut : (other : ℕ) (t : Tree) (or_at : Bool) (target : Target) (low : Option Pair) → (other ≡ op → ⊥) → IsNode node → HasPassed w t other or_at target low → HasPassed (edited op page (lower_half right node) w) t other or_at target low
@@ -377,6 +411,7 @@ module _ (op page right : ℕ) (node : NodeValue) (w : World) (apart : IsApart w
     founded = refl;
     apart = IsApart-edited op page (lower_half right node) w apart;
     at = KeepsAt-cut;
+    levels = KeepsLevels-cut;
     tree = λ at t leaves tree. (inserted page right leaves, IsTree-cut at t leaves tree);
     latch = λ other q differ. refl;
     own = λ other q differ. refl;

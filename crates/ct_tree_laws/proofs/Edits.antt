@@ -7,11 +7,12 @@ use Rattle.std.proofs.lemmas.List.Elements.{All-weaker, All-head, All-tail, filt
 use Rattle.ct_node.specs.declared.root.Root.{Root}
 use Rattle.ct_definitions.specs.Pairs.{Pair, with_pair}
 use Rattle.ct_node.specs.Nodes.{Entry, NodeValue, IsNode, pairs_in, is_from, is_below, with_entry, has_other_pair}
-use Rattle.ct_node.specs.Worlds.{World, Blank, Defines, Holds, page_at, has_latch, has_fresh, is_fresh, edited, IsHeld, PutsPair, TakesPair, WritesRight}
+use Rattle.ct_node.specs.Worlds.{World, Blank, Defines, Holds, page_at, IsLevel, has_latch, has_fresh, is_fresh, edited, IsHeld, PutsPair, TakesPair, WritesRight}
 use Rattle.ct_node.proofs.Orders.{below, same, same_back, not_above, not_same, map-with_entry, map-filter, other_than}
-use Rattle.ct_tree_laws.specs.Trees.{Tree, IsOf, IsInner, IsInRole, IsTree, IsApart, IsAmong, pairs_in_page, pairs_at, joined}
+use Rattle.ct_tree_laws.specs.Trees.{Tree, IsOf, IsInner, IsInRole, IsEven, IsTree, IsApart, IsAmong, pairs_in_page, pairs_at, joined}
 use Rattle.ct_tree_laws.proofs.Pages.{page_within, page_at-edited, page_at-edited_other, stays_linked, is_fresh-edited, has_fresh-edited, is_fresh_from, IsApart-edited}
-use Rattle.ct_tree_laws.proofs.Kept.{KeepsDefinitions, KeepsLinks, IsReached, IsAlike, IsAlike-same, IsInRole-alike, named_kept}
+use Rattle.ct_tree_laws.proofs.Levels.{KeepsFirst, KeepsFirst-leaf, KeepsLevels-edited, KeepsLevels-written}
+use Rattle.ct_tree_laws.proofs.Kept.{KeepsDefinitions, KeepsLinks, IsEvenAt, IsReached, IsAlike, IsAlike-same, IsInRole-alike, named_kept}
 use Rattle.ct_tree_laws.proofs.Steps.{LeavesLinks}
 use Rattle.ct_tree_laws.proofs.Chains.{IsUnder, IsOver, below_le, Around, around, one_node}
 
@@ -22,19 +23,32 @@ definitions_kept op page node new w is_node q def is = page_at-edited_other op p
 definitions_kept_blank : (op page : ℕ) (new : NodeValue) (w : World) → page_at w page ≡ Blank → KeepsDefinitions w (edited op page new w)
 definitions_kept_blank op page new w blank q def is = page_at-edited_other op page new w q (λ one. let no : Blank ≡ Defines def = sym blank ∙ sym (ap (page_at w) one) ∙ is in absurd (cc)) ∙ is
 
+-- an edit of an inner node leaves it even
+abbrev pub StaysEven : World → ℕ → NodeValue → NodeValue → Type 0
+StaysEven w page node new = node.leaf ≡ false → (level : ℕ) → IsLevel w level page → IsEven w level node → IsEven w level new
+
 -- a node that a link reaches gives way to one that is alike
-KeepsLinks-alike : (op page : ℕ) (node new : NodeValue) (w : World) → IsReached w page node → IsAlike node new → (node.leaf ≡ false → (t : Tree) → IsOf t node → IsInRole w t node → IsInner w t new) → is_fresh new.right w ≡ false → KeepsLinks w (edited op page new w)
-KeepsLinks-alike op page node new w reached alike leads onward = record {
+KeepsLinks-alike : (op page : ℕ) (node new : NodeValue) (w : World) → IsReached w page node → IsAlike node new → KeepsFirst node new → StaysEven w page node new → (node.leaf ≡ false → (t : Tree) → IsOf t node → IsInRole w t node → IsInner w t new) → is_fresh new.right w ≡ false → KeepsLinks w (edited op page new w)
+KeepsLinks-alike op page node new w reached alike first stays leads onward = record {
   onward = λ q v is. ⊎_elim (changed q v is) (λ differ. (v, record { is = page_at-edited_other op page new w q differ ∙ is.is; linked = stays_linked op page new w q is.linked }, IsAlike-same v)) (cases_eq q page);
   back = λ q v is leaf. before q v is;
   inner = λ q v is inner at t leaves tree of. ⊎_elim
       (λ one.
       let v_is : v ≡ new = new_here q v is one in
-      let of_node : IsOf t node = record { file = sym alike.file ∙ sym (ap (λ (u : NodeValue). u.file) v_is) ∙ of.file; index = sym alike.index ∙ sym (ap (λ (u : NodeValue). u.index) v_is) ∙ of.index } in
+      let of_node = of_before t v v_is of in
       let role = tree.roles page node reached.is of_node reached.linked in
       subst (IsInRole w t) (sym v_is) (IsInRole-alike w t node new alike (λ kind. leads kind t of_node role) role))
       (λ differ. tree.roles q v (sym (page_at-edited_other op page new w q differ) ∙ is.is) of (linked q is.linked))
       (cases_eq q page);
+  even = λ q v is inner at t leaves tree of. ⊎_elim
+      (λ one.
+      let v_is : v ≡ new = new_here q v is one in
+      let found = tree.levels page node reached.is (of_before t v v_is of) reached.linked in
+      let inner_node : node.leaf ≡ false = sym alike.leaf ∙ sym (ap (λ (u : NodeValue). u.leaf) v_is) ∙ inner in
+      (found.0, subst (IsLevel w found.0) (sym one) found.1, subst (IsEven w found.0) (sym v_is) (stays inner_node found.0 found.1 found.2)))
+      (λ differ. tree.levels q v (sym (page_at-edited_other op page new w q differ) ∙ is.is) of (linked q is.linked))
+      (cases_eq q page);
+  levels = KeepsLevels-edited op page node new w reached.is first;
   named = named_kept w (edited op page new w) (definitions_kept op page node new w reached.is);
 }
   where
@@ -45,6 +59,9 @@ KeepsLinks-alike op page node new w reached alike leads onward = record {
 
     linked : (q : ℕ) → is_fresh q (edited op page new w) ≡ false → is_fresh q w ≡ false
     linked q is = ⊎_elim (λ one. ap (λ p. is_fresh p w) one ∙ onward) (λ differ. sym (is_fresh-edited op page new w q differ) ∙ is) (cases_eq q new.right)
+
+    of_before : (t : Tree) (v : NodeValue) → v ≡ new → IsOf t v → IsOf t node
+    of_before t v v_is of = record { file = sym alike.file ∙ sym (ap (λ (u : NodeValue). u.file) v_is) ∙ of.file; index = sym alike.index ∙ sym (ap (λ (u : NodeValue). u.index) v_is) ∙ of.index }
 
     new_here : (q : ℕ) (v : NodeValue) → IsReached (edited op page new w) q v → q ≡ page → v ≡ new
     new_here q v is one = one_node (edited op page new w) page new v (page_at-edited op page new w (page_within w page node reached.is)) (sym (ap (page_at (edited op page new w)) one) ∙ is.is)
@@ -78,9 +95,9 @@ not_latched_held op page node w apart held other differ latched = differ (apart.
 pub not_theirs_held : (op page : ℕ) (node : NodeValue) (w : World) → IsHeld op page node w → (other : ℕ) → has_fresh other page w ≡ true → ⊥
 not_theirs_held op page node w held other mine = false≢true (sym held.linked ∙ is_fresh_from other page w mine)
 
-pub LeavesLinks-held : (op page : ℕ) (node new : NodeValue) (w : World) → IsApart w → IsHeld op page node w → IsAlike node new → (node.leaf ≡ false → (t : Tree) → IsOf t node → IsInRole w t node → IsInner w t new) → LeavesLinks op w (edited op page new w)
-LeavesLinks-held op page node new w apart held alike leads =
-    LeavesLinks-edited op page new w apart (KeepsLinks-alike op page node new w (record { is = held.is; linked = held.linked }) alike leads (ap (λ right. is_fresh right w) alike.right ∙ held.onward)) (definitions_kept op page node new w held.is) (λ other other_node differ latched reached. not_latched_held op page node w apart held other differ latched) (λ other differ mine. not_theirs_held op page node w held other mine)
+pub LeavesLinks-held : (op page : ℕ) (node new : NodeValue) (w : World) → IsApart w → IsHeld op page node w → IsAlike node new → KeepsFirst node new → StaysEven w page node new → (node.leaf ≡ false → (t : Tree) → IsOf t node → IsInRole w t node → IsInner w t new) → LeavesLinks op w (edited op page new w)
+LeavesLinks-held op page node new w apart held alike first stays leads =
+    LeavesLinks-edited op page new w apart (KeepsLinks-alike op page node new w (record { is = held.is; linked = held.linked }) alike first stays leads (ap (λ right. is_fresh right w) alike.right ∙ held.onward)) (definitions_kept op page node new w held.is) (λ other other_node differ latched reached. not_latched_held op page node w apart held other differ latched) (λ other differ mine. not_theirs_held op page node w held other mine)
 
 pub IsAlike-entries : (node new : NodeValue) (entries : List Entry) → IsNode new → new ≡ record node { entries = entries } → IsAlike node new
 IsAlike-entries node new entries sound made = record {
@@ -95,10 +112,10 @@ IsAlike-entries node new entries sound made = record {
 }
 
 pub LeavesLinks-puts : (op page : ℕ) (new : NodeValue) (w : World) → IsApart w → PutsPair op page new w → LeavesLinks op w (edited op page new w)
-LeavesLinks-puts op page new w apart puts = LeavesLinks-held op page puts.node new w apart puts.held (IsAlike-entries puts.node new (with_entry (record { pair = puts.pair; child = 0 }) puts.node.entries) puts.sound puts.made) (λ inner. absurd (true≢false (sym puts.leaf ∙ inner)))
+LeavesLinks-puts op page new w apart puts = LeavesLinks-held op page puts.node new w apart puts.held (IsAlike-entries puts.node new (with_entry (record { pair = puts.pair; child = 0 }) puts.node.entries) puts.sound puts.made) (KeepsFirst-leaf puts.node new puts.leaf (ap (λ (v : NodeValue). v.leaf) puts.made)) (λ inner. absurd (true≢false (sym puts.leaf ∙ inner))) (λ inner. absurd (true≢false (sym puts.leaf ∙ inner)))
 
 pub LeavesLinks-takes : (op page : ℕ) (new : NodeValue) (w : World) → IsApart w → TakesPair op page new w → LeavesLinks op w (edited op page new w)
-LeavesLinks-takes op page new w apart takes = LeavesLinks-held op page takes.node new w apart takes.held (IsAlike-entries takes.node new (filter (has_other_pair takes.pair) takes.node.entries) takes.sound takes.made) (λ inner. absurd (true≢false (sym takes.leaf ∙ inner)))
+LeavesLinks-takes op page new w apart takes = LeavesLinks-held op page takes.node new w apart takes.held (IsAlike-entries takes.node new (filter (has_other_pair takes.pair) takes.node.entries) takes.sound takes.made) (KeepsFirst-leaf takes.node new takes.leaf (ap (λ (v : NodeValue). v.leaf) takes.made)) (λ inner. absurd (true≢false (sym takes.leaf ∙ inner))) (λ inner. absurd (true≢false (sym takes.leaf ∙ inner)))
 
 -- a blank page of the operation's own is written: no link reaches it
 KeepsLinks-written : (op page : ℕ) (new : NodeValue) (w : World) → page_at w page ≡ Blank → has_fresh op page w ≡ true → is_fresh new.right w ≡ false → KeepsLinks w (edited op page new w)
@@ -106,6 +123,8 @@ KeepsLinks-written op page new w blank mine onward = record {
   onward = λ q v is. (v, record { is = page_at-edited_other op page new w q (not_blank q v is.is) ∙ is.is; linked = stays_linked op page new w q is.linked }, IsAlike-same v);
   back = λ q v is leaf. (v, before q v is, IsAlike-same v);
   inner = λ q v is inner at t leaves tree of. let was = before q v is in tree.roles q v was.is of was.linked;
+  even = λ q v is inner at t leaves tree of. let was = before q v is in tree.levels q v was.is of was.linked;
+  levels = KeepsLevels-written op page new w blank;
   named = named_kept w (edited op page new w) (definitions_kept_blank op page new w blank);
 }
   where

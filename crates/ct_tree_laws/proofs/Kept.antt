@@ -7,12 +7,10 @@ use Rattle.ct_node.specs.declared.root.Root.{Root}
 use Rattle.ct_node.specs.declared.root.IndexRow.{IndexRow}
 use Rattle.ct_definitions.specs.Pairs.{Pair}
 use Rattle.ct_node.specs.Nodes.{Entry, NodeValue, IsNode}
-use Rattle.ct_node.specs.Worlds.{World, Defines, Holds, DefinitionValue, page_at, is_fresh}
-use Rattle.ct_tree_laws.specs.Trees.{Tree, IsOf, IsAt, Link, link_by, link_of, link_in, Rises, IsInner, IsInRole, Linked, IsTree}
-
--- each node of a tree that a link reaches keeps its place
-abbrev pub KeepsAt : World → World → Type 0
-KeepsAt w now = (t : Tree) (leaf : Bool) (low : Option Pair) (page : ℕ) → IsAt w t leaf low page → IsAt now t leaf low page
+use Rattle.ct_node.specs.Worlds.{World, Defines, Holds, DefinitionValue, page_at, IsLevel, is_fresh}
+use Rattle.ct_tree_laws.specs.Trees.{Tree, IsOf, IsAt, Link, link_by, link_of, link_in, Rises, IsInner, IsInRole, IsEven, Linked, IsTree}
+use Rattle.ct_tree_laws.specs.Stands.{KeepsLevels, KeepsAt}
+use Rattle.ct_tree_laws.proofs.Levels.{IsEven-kept}
 
 -- definition pages stay
 abbrev pub KeepsDefinitions : World → World → Type 0
@@ -48,11 +46,17 @@ pub record IsNamed (w : World) (at : Root) (t : Tree) : Type 0 where
   pub first : row.first ≡ t.first
   pub root : (leaf : Bool) × IsAt w t leaf None row.root
 
--- the nodes that links reach stay, and no other leaf comes; each inner node is in its role, and each tree is named
+-- a node of a page is even on the page's level
+abbrev pub IsEvenAt : World → ℕ → NodeValue → Type 0
+IsEvenAt w page node = (level : ℕ) × IsLevel w level page × IsEven w level node
+
+-- the nodes that links reach stay, and no other leaf comes; each inner node is in its role and even, pages stay on their levels, and each tree is named
 pub record KeepsLinks (w now : World) : Type 0 where
   pub onward : (page : ℕ) (node : NodeValue) → IsReached w page node → (other : NodeValue) × IsReached now page other × IsAlike node other
   pub back : (page : ℕ) (node : NodeValue) → IsReached now page node → node.leaf ≡ true → (other : NodeValue) × IsReached w page other × IsAlike other node
   pub inner : (page : ℕ) (node : NodeValue) → IsReached now page node → node.leaf ≡ false → (at : Root) (t : Tree) (leaves : List ℕ) → IsTree w at t leaves → IsOf t node → IsInRole w t node
+  pub even : (page : ℕ) (node : NodeValue) → IsReached now page node → node.leaf ≡ false → (at : Root) (t : Tree) (leaves : List ℕ) → IsTree w at t leaves → IsOf t node → IsEvenAt w page node
+  pub levels : KeepsLevels w now
   pub named : KeepsAt w now → (at : Root) (t : Tree) (leaves : List ℕ) → IsTree w at t leaves → IsNamed now at t
 
 -- where definitions stay, they name their trees
@@ -115,6 +119,13 @@ IsInRole-alike w t node other alike leads role = record {
   inner = λ inner. leads (sym alike.leaf ∙ inner);
 }
 
+-- of a leaf its link alone is asked
+IsEven-alike : (w : World) (level : ℕ) (node other : NodeValue) → IsAlike node other → other.leaf ≡ true → IsEven w level node → IsEven w level other
+IsEven-alike w level node other alike leaf even = record {
+  right = λ link is. even.right link (sym (link_of-alike node other alike) ∙ is);
+  below = λ inner. absurd (false≢true (sym inner ∙ leaf));
+}
+
 link_in-kept : (w now : World) (t : Tree) (low : Option Pair) (page : ℕ) → KeepsLinks w now → IsAt w t true low page → link_in (page_at w page) ≡ link_in (page_at now page)
 link_in-kept w now t low page keeps at =
     let after = keeps.onward page at.node (record { is = at.is; linked = at.linked }) in
@@ -145,6 +156,9 @@ IsTree-kept w now at t leaves keeps tree =
           let alike = before.2 in
           tree.all page before.0 before.1.is (record { file = sym alike.file ∙ of.file; index = sym alike.index ∙ of.index }) (sym alike.leaf ∙ leaf) before.1.linked;
       roles = λ page node is of linked. IsInRole-kept w now t node keeps_at (role_before page node (record { is = is; linked = linked }) of (cases_Bool node.leaf));
+      levels = λ page node is of linked.
+          let before = even_before page node (record { is = is; linked = linked }) of (cases_Bool node.leaf) in
+          (before.0, keeps.levels before.0 page before.1, IsEven-kept w now before.0 node keeps.levels before.2);
     }
   where
     role_before : (page : ℕ) (node : NodeValue) → IsReached now page node → IsOf t node → (node.leaf ≡ true) ⊎ (node.leaf ≡ false) → IsInRole w t node
@@ -154,3 +168,12 @@ IsTree-kept w now at t leaves keeps tree =
         let alike = before.2 in
         let was : IsOf t before.0 = record { file = sym alike.file ∙ of.file; index = sym alike.index ∙ of.index } in
         IsInRole-alike w t before.0 node alike (λ inner. absurd (false≢true (sym inner ∙ sym alike.leaf ∙ leaf))) (tree.roles page before.0 before.1.is was before.1.linked)
+
+    even_before : (page : ℕ) (node : NodeValue) → IsReached now page node → IsOf t node → (node.leaf ≡ true) ⊎ (node.leaf ≡ false) → IsEvenAt w page node
+    even_before page node reached of (inr inner) = keeps.even page node reached inner at t leaves tree of
+    even_before page node reached of (inl leaf) =
+        let before = keeps.back page node reached leaf in
+        let alike = before.2 in
+        let was : IsOf t before.0 = record { file = sym alike.file ∙ of.file; index = sym alike.index ∙ of.index } in
+        let found = tree.levels page before.0 before.1.is was before.1.linked in
+        (found.0, found.1, IsEven-alike w found.0 before.0 node alike leaf found.2)

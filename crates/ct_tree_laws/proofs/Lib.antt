@@ -1,6 +1,9 @@
 pub mod Holders
 pub mod Taking
 pub mod Pages
+pub mod Levels
+pub mod Capacities
+pub mod EvenLevels
 pub mod Kept
 pub mod Chains
 pub mod LeftKept

@@ -1,5 +1,5 @@
 -- What an operation remembers stands after a call of another one.
-use Rattle.std.proofs.Common.{◌≡◌, ℕ, Bool, true, false, sym, ◌∙◌, subst, Option, Some, None}
+use Rattle.std.proofs.Common.{◌≡◌, ℕ, suc, Bool, true, false, sym, ◌∙◌, subst, Option, Some, None}
 use Rattle.std.specs.Prelude.{IsTrue}
 use Rattle.ct_node.specs.declared.target.Target.{Target}
 use Rattle.ct_node.specs.Nodes.{NodeValue}
@@ -12,6 +12,7 @@ use Rattle.ct_tree_laws.specs.declared.rise.Separator.{Separator}
 use Rattle.ct_tree_laws.specs.declared.rise.Rise.{Rise}
 use Rattle.ct_tree_laws.specs.declared.rise.Rise.TheVariants as rise
 use Rattle.ct_tree_laws.proofs.Taking.{has_latch_from_own}
+use Rattle.ct_tree_laws.proofs.Levels.{beside_kept, one_above_kept, IsEven-kept}
 use Rattle.ct_tree_laws.proofs.Kept.{IsInRole-kept}
 use Rattle.ct_tree_laws.proofs.Steps.{IsStep}
 use Rattle.ct_node.specs.declared.target.Target.TheVariants.{Before}
@@ -34,7 +35,7 @@ module _ (op : ℕ) (w now : World) (step : IsStep op w now) (other : ℕ) (diff
   full : (page : ℕ) (node : NodeValue) → IsFull w t other target page node → IsFull now t other target page node
   full page node is =
       let kept = step.held other page node differ (has_latch_from_own other page w is.owned) (record { is = is.is; linked = is.linked }) in
-      record { is = kept.is; owned = step.own other page differ ∙ is.owned; linked = kept.linked; of = is.of; leaf = is.leaf; enough = is.enough }
+      record { is = kept.is; owned = step.own other page differ ∙ is.owned; linked = kept.linked; of = is.of; leaf = is.leaf; enough = is.enough; full = is.full }
 
   reached : (page : ℕ) (above : Bool) → IsReachedBySearch w t other above target page → IsReachedBySearch now t other above target page
   reached page above is = (is.0, step.at t true is.0 page is.1, step.passed other t above target is.0 differ is.2)
@@ -52,19 +53,19 @@ module _ (op : ℕ) (w now : World) (step : IsStep op w now) (other : ℕ) (diff
   only page is q latched = is q (sym (step.latch other q differ) ∙ latched)
 
   separator_kept : (separator : Separator) → IsSeparator w t separator → IsSeparator now t separator
-  separator_kept separator is = (is.0, step.at t is.0 (Some separator.low) separator.child is.1, is.2, is.3)
+  separator_kept separator is = (is.0, step.at t is.0 (Some separator.low) separator.child is.1, is.2, is.3, beside_kept w now separator.left separator.child step.levels is.4)
 
-  above_kept : (separator : Separator) (page : ℕ) → IsAbove w t separator page → IsAbove now t separator page
-  above_kept separator page is = (is.0, step.at t false is.0 page is.1, is.2)
+  above_kept : (separator : Separator) (below page : ℕ) → IsAbove w t separator below page → IsAbove now t separator below page
+  above_kept separator below page is = (is.0, step.at t false is.0 page is.1, is.2, one_above_kept w now page below step.levels is.3)
 
-  above_if : (separator : Separator) (above : Option ℕ) → IsAboveIf w t separator above → IsAboveIf now t separator above
-  above_if separator None is = is
-  above_if separator (Some page) is = above_kept separator page is
+  above_if : (separator : Separator) (below : ℕ) (above : Option ℕ) → IsAboveIf w t separator below above → IsAboveIf now t separator below above
+  above_if separator below None is = is
+  above_if separator below (Some page) is = above_kept separator below page is
 
   chosen : (separator : Separator) (page : ℕ) (node : NodeValue) → IsChosen w t other separator page node → IsChosen now t other separator page node
   chosen separator page node is =
       let kept = step.held other page node differ (has_latch_from_own other page w is.owned) (record { is = is.is; linked = is.linked }) in
-      record { is = kept.is; owned = step.own other page differ ∙ is.owned; linked = kept.linked; of = is.of; inner = is.inner; within = is.within }
+      record { is = kept.is; owned = step.own other page differ ∙ is.owned; linked = kept.linked; of = is.of; inner = is.inner; within = is.within; level = one_above_kept w now page separator.child step.levels is.level }
 
   half : (separator : Separator) (page : ℕ) (next : Option Separator) → IsHalf w t other separator page next → IsHalf now t other separator page next
   half separator page None is = is
@@ -86,17 +87,17 @@ module _ (op : ℕ) (w now : World) (step : IsStep op w now) (other : ℕ) (diff
   root separator has = record { def = has.def; row = has.row; has = definition has.def has.has; named = has.named; old = has.old }
 
   crown : (separator : Separator) (node : NodeValue) → IsCrown w t separator node → IsCrown now t separator node
-  crown separator node is = record { first = is.first; rest = is.rest; of = is.of; inner = is.inner; low = is.low; high = is.high; entries = is.entries; old = is.old; role = IsInRole-kept w now t node step.at is.role }
+  crown separator node is = record { first = is.first; rest = is.rest; of = is.of; inner = is.inner; low = is.low; high = is.high; entries = is.entries; old = is.old; role = IsInRole-kept w now t node step.at is.role; even = (is.even.0, step.levels is.even.0 is.first.child is.even.1, IsEven-kept w now (suc is.even.0) node step.levels is.even.2) }
 
   rise_kept : (separator : Separator) (rise : Rise) → IsAtRise w t other separator rise → IsAtRise now t other separator rise
   rise_kept separator rise.Root is = (tidy is.0, none is.1)
-  rise_kept separator (rise.Down page above) is = (tidy is.0, (is.1.0, is.1.1, step.at t is.1.0 is.1.1 page is.1.2, is.1.3), above_if separator above is.2, none is.3)
-  rise_kept separator (rise.Above page) is = (tidy is.0, above_kept separator page is.1, none is.2)
-  rise_kept separator (rise.Held page next) is = (tidy is.0, above_kept separator page is.1, step.own other page differ ∙ is.2, only page is.3, half separator page next is.4)
-  rise_kept separator (rise.Full page) is = (tidy is.0, (is.1.0, (chosen separator page is.1.0 is.1.1.0, is.1.1.1)), only page is.2)
-  rise_kept separator (rise.Fresh page right) is = (tidy is.0, (is.1.0, (chosen separator page is.1.0 is.1.1.0, is.1.1.1)), step.fresh other right differ ∙ is.2, only page is.3)
-  rise_kept separator (rise.Split page right) is = (tidy is.0, (is.1.0, (chosen separator page is.1.0 is.1.1.0, is.1.1.1)), step.fresh other right differ ∙ is.2, step.own other right differ ∙ is.3, both page right is.4)
-  rise_kept separator (rise.Cut page right) is = (tidy_but right is.0, (is.1.0, (chosen separator page is.1.0 is.1.1.0, is.1.1.1), step.blank other right differ is.2 ∙ is.1.2), step.fresh other right differ ∙ is.2, step.own other right differ ∙ is.3, both page right is.4)
+  rise_kept separator (rise.Down page above) is = (tidy is.0, (is.1.0, is.1.1, step.at t is.1.0 is.1.1 page is.1.2, is.1.3), above_if separator page above is.2, none is.3)
+  rise_kept separator (rise.Above page) is = (tidy is.0, above_kept separator separator.child page is.1, none is.2)
+  rise_kept separator (rise.Held page next) is = (tidy is.0, above_kept separator separator.child page is.1, step.own other page differ ∙ is.2, only page is.3, half separator page next is.4)
+  rise_kept separator (rise.Full page) is = (tidy is.0, (is.1.0, (chosen separator page is.1.0 is.1.1.0, is.1.1.1, is.1.1.2)), only page is.2)
+  rise_kept separator (rise.Fresh page right) is = (tidy is.0, (is.1.0, (chosen separator page is.1.0 is.1.1.0, is.1.1.1, is.1.1.2)), step.fresh other right differ ∙ is.2, only page is.3)
+  rise_kept separator (rise.Split page right) is = (tidy is.0, (is.1.0, (chosen separator page is.1.0 is.1.1.0, is.1.1.1, is.1.1.2)), step.fresh other right differ ∙ is.2, step.own other right differ ∙ is.3, both page right is.4)
+  rise_kept separator (rise.Cut page right) is = (tidy_but right is.0, (is.1.0, (chosen separator page is.1.0 is.1.1.0, is.1.1.1, is.1.1.2), step.blank other right differ is.2 ∙ is.1.2), step.fresh other right differ ∙ is.2, step.own other right differ ∙ is.3, both page right is.4)
   rise_kept separator rise.Again is = (tidy is.0, none is.1)
   rise_kept separator rise.Named is = (tidy is.0, (is.1.0, definition is.1.0 is.1.1))
   rise_kept separator rise.Grow is = (tidy is.0, root separator is.1)

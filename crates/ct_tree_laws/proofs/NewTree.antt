@@ -5,11 +5,11 @@ use Rattle.std.proofs.lemmas.List.Elements.{All-nil}
 use Rattle.ct_definitions.specs.Pairs.{Pair}
 use Rattle.ct_node.specs.declared.target.Target.TheVariants.{At}
 use Rattle.ct_node.specs.Nodes.{NodeValue, IsNode, is_within}
-use Rattle.ct_node.specs.Worlds.{Blank, Defines, Holds, DefinitionValue, page_at}
+use Rattle.ct_node.specs.Worlds.{Blank, Defines, Holds, DefinitionValue, page_at, IsLevel}
 use Rattle.ct_node.specs.MemWorlds.{empty_leaf, new_world}
 use Rattle.ct_tree_laws.specs.declared.walk.Walk.{Walk}
 use Rattle.ct_tree_laws.specs.declared.walk.Stage.TheVariants as stage
-use Rattle.ct_tree_laws.specs.Trees.{Tree, IsOf, IsAt, IsInRole, IsTree, IsApart, Chain}
+use Rattle.ct_tree_laws.specs.Trees.{Tree, IsOf, IsAt, IsInRole, IsEven, IsTree, IsApart, Chain}
 use Rattle.ct_tree_laws.specs.Stands.{Stands}
 
 module _ (key_len : ℕ) (some : 1 ≤ key_len) (short : key_len ≤ 128) where
@@ -39,6 +39,12 @@ module _ (key_len : ℕ) (some : 1 ≤ key_len) (short : key_len ≤ 128) where
     inner = λ inner. absurd (false≢true (sym inner));
   }
 
+  leaf_even : IsEven (new_world key_len) 0 (empty_leaf key_len)
+  leaf_even = record {
+    right = λ link is. absurd (let no : None ≡ Some link = is in cc);
+    below = λ inner. absurd (false≢true (sym inner));
+  }
+
   pub new_tree : IsTree (new_world key_len) (record { page = 0; index = 0 }) (record { file = 0; index = 0; key_len = key_len; first = 1 }) (1 ∷ [])
   new_tree =
       let t : Tree = record { file = 0; index = 0; key_len = key_len; first = 1 } in
@@ -56,6 +62,7 @@ module _ (key_len : ℕ) (some : 1 ≤ key_len) (short : key_len ≤ 128) where
         linked = (None, refl, at_leaf t of refl, refl);
         all = λ page node is of leaf linked. inl (page_one page node is).0;
         roles = λ page node is of linked. subst (IsInRole (new_world key_len) t) (sym (page_one page node is).1) (leaf_role t refl);
+        levels = λ page node is of linked. let one = page_one page node is in (0, subst (IsLevel (new_world key_len) 0) (sym one.0) (empty_leaf key_len, refl, refl), subst (IsEven (new_world key_len) 0) (sym one.1) leaf_even);
       }
 
   pub new_apart : IsApart (new_world key_len)

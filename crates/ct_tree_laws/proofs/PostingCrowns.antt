@@ -1,5 +1,5 @@
 -- The turns that write a new root and name it, while the definition page is the operation's own.
-use Rattle.std.proofs.Common.{◌≡◌, ℕ, Bool, true, false, ◌||◌, List, [], ◌∷◌, length, refl, sym, ap, ◌∙◌, subst, Some, None, find}
+use Rattle.std.proofs.Common.{◌≡◌, ℕ, suc, Bool, true, false, ◌||◌, List, [], ◌∷◌, length, refl, sym, ap, ◌∙◌, subst, Some, None, find}
 use Rattle.std.specs.Prelude.{IsTrue, slice_get}
 use Rattle.std.proofs.lemmas.Bool.{false≢true, cond-false}
 use Rattle.std.proofs.lemmas.List.Elements.{All-nil, All-cons}
@@ -7,17 +7,18 @@ use Rattle.ct_latch.specs.Latches.{bars, with_hold}
 use Rattle.ct_node.specs.declared.root.IndexRow.{IndexRow}
 use Rattle.ct_node.specs.Nodes.{Entry, NodeValue, IsNode, pairs_in, has_pair, with_entry}
 use Rattle.ct_node.specs.Roles.{first_of}
-use Rattle.ct_node.specs.Worlds.{World, Blank, Defines, Holds, DefinitionValue, page_at, has_latch, has_own, has_fresh, is_fresh, with_fresh, with_holds, edited, rooted, row_in, WritesRoot, RaisesRoot, IsTidy}
+use Rattle.ct_node.specs.Worlds.{World, Blank, Defines, Holds, DefinitionValue, page_at, IsLevel, has_latch, has_own, has_fresh, is_fresh, with_fresh, with_holds, edited, rooted, row_in, WritesRoot, RaisesRoot, IsTidy}
 use Rattle.ct_node.proofs.Orders.{below, same, not_above, not_same}
 use Rattle.ct_tree_laws.specs.declared.walk.Walk.{Walk}
 use Rattle.ct_tree_laws.specs.declared.walk.Stage.{Stage}
 use Rattle.ct_tree_laws.specs.declared.walk.Stage.TheVariants as stage
 use Rattle.ct_tree_laws.specs.declared.rise.Separator.{Separator}
 use Rattle.ct_tree_laws.specs.declared.rise.Rise.TheVariants as rise
-use Rattle.ct_tree_laws.specs.Trees.{Tree, IsOf, IsAt, IsInRole, IsTree, IsApart, Chain}
+use Rattle.ct_tree_laws.specs.Trees.{Tree, IsOf, IsAt, IsInRole, IsEven, IsTree, IsApart, Chain}
 use Rattle.ct_tree_laws.specs.Stands.{HasOnly, HasDefinition, HasRoot, IsCrown, node_over, IsAtStage, StandsIn, Stands, Stepped, KeepsKeys}
 use Rattle.ct_tree_laws.proofs.Taking.{owned, has_own-with_hold_new}
 use Rattle.ct_tree_laws.proofs.Pages.{page_at-edited, page_at-edited_other, page_at-with_fresh, is_fresh_from, has_fresh_before, has_fresh-edited_mine, has_fresh-with_fresh}
+use Rattle.ct_tree_laws.proofs.Levels.{IsEven-kept}
 use Rattle.ct_tree_laws.proofs.Kept.{IsInRole-kept}
 use Rattle.ct_tree_laws.proofs.Chains.{one_node}
 use Rattle.ct_tree_laws.proofs.Steps.{IsStep, IsStep-next, IsStep-with_fresh, IsStep-from_links}
@@ -187,8 +188,20 @@ module _ (walk : Walk) (s : Separator) (root : ℕ) (node : NodeValue) (w : Worl
     };
   }
 
+  -- both pages below are on the old root's level
+  drawn_even : (lower : ℕ) × IsLevel w lower s.left × IsEven w (suc lower) drawn
+  drawn_even =
+      let beside = here.place.0.4 in (
+        beside.0,
+        beside.1,
+        record {
+          right = λ link told. absurd (let no : None ≡ Some link = told in cc);
+          below = λ _. (beside.0, refl, All-cons (λ (entry : Entry). IsLevel w beside.0 entry.child) first_entry (second_entry ∷ []) beside.1 (All-cons (λ (entry : Entry). IsLevel w beside.0 entry.child) second_entry [] beside.2 (All-nil (λ (entry : Entry). IsLevel w beside.0 entry.child))));
+        },
+      )
+
   drawn_crown : IsNode drawn → IsCrown w here.tree s drawn
-  drawn_crown sound = record { first = first_entry; rest = second_entry ∷ []; of = record { file = of.file; index = of.index }; inner = refl; low = refl; high = refl; entries = refl; old = refl; role = drawn_role sound }
+  drawn_crown sound = record { first = first_entry; rest = second_entry ∷ []; of = record { file = of.file; index = of.index }; inner = refl; low = refl; high = refl; entries = refl; old = refl; role = drawn_role sound; even = drawn_even }
 
   drawn_writes : IsNode drawn → WritesRoot walk.op root drawn w
   drawn_writes sound =
@@ -217,6 +230,7 @@ module _ (walk : Walk) (s : Separator) (root : ℕ) (node : NodeValue) (w : Worl
         stood = is;
         of = (refl, refl, refl);
         there = record { is = below_it.is; linked = below_it.linked; file = below_it.of.file ∙ sym of.file; index = below_it.of.index ∙ sym of.index; key_len = below_it.key_len ∙ sym key_len; from = below_it.from };
+        level = here.place.0.4;
         sound = sound;
       }
 
@@ -237,7 +251,7 @@ module _ (walk : Walk) (s : Separator) (root : ℕ) (node : NodeValue) (w : Worl
           λ q mine apart. page_at-edited_other walk.op root new w q apart ∙ here.place.1.0 q (has_fresh_before walk.op root new w walk.op q mine),
           root_kept w now here.tree walk.op s has (page_at-edited_other walk.op root new w has.has.page not_there) refl,
           has_fresh-edited_mine walk.op root new w walk.op root not_right ∙ here.place.1.2,
-          (new, page_at-edited walk.op root new w (here.apart.within root (is_fresh_from walk.op root w here.place.1.2)), record { first = crown.first; rest = crown.rest; of = crown.of; inner = crown.inner; low = crown.low; high = crown.high; entries = crown.entries; old = crown.old; role = IsInRole-kept w now here.tree new step.at crown.role }),
+          (new, page_at-edited walk.op root new w (here.apart.within root (is_fresh_from walk.op root w here.place.1.2)), record { first = crown.first; rest = crown.rest; of = crown.of; inner = crown.inner; low = crown.low; high = crown.high; entries = crown.entries; old = crown.old; role = IsInRole-kept w now here.tree new step.at crown.role; even = (crown.even.0, step.levels crown.even.0 crown.first.child crown.even.1, IsEven-kept w now (suc crown.even.0) new step.levels crown.even.2) }),
         ),
       )
 

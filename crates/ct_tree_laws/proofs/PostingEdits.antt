@@ -1,15 +1,16 @@
 -- A page posted to an inner node, and a new root written: links stay.
-use Rattle.std.proofs.Common.{◌≡◌, ℕ, Bool, true, false, cond, List, [], ◌∷◌, refl, sym, ap, ◌∙◌, subst, Some}
+use Rattle.std.proofs.Common.{◌≡◌, ℕ, suc, Bool, true, false, cond, List, [], ◌∷◌, refl, sym, ap, ◌∙◌, arith, subst, Some}
 use Rattle.std.specs.List.{All}
 use Rattle.std.proofs.lemmas.Bool.{cond-false}
 use Rattle.std.proofs.lemmas.List.Elements.{All-cons, All-head, All-tail}
 use Rattle.ct_definitions.specs.Pairs.{Pair}
 use Rattle.ct_node.specs.Nodes.{Entry, NodeValue, with_entry}
-use Rattle.ct_node.specs.Worlds.{World, is_fresh, edited, IsBelow, PostsChild, WritesRoot}
+use Rattle.ct_node.specs.Worlds.{World, IsLevel, is_fresh, edited, IsBelow, PostsChild, WritesRoot}
 use Rattle.ct_node.proofs.Orders.{below, not_above}
-use Rattle.ct_tree_laws.specs.Trees.{Tree, IsOf, IsAt, IsInner, IsInRole, IsApart}
+use Rattle.ct_tree_laws.specs.Trees.{Tree, IsOf, IsAt, IsInner, IsInRole, IsEven, IsApart}
 use Rattle.ct_tree_laws.proofs.Steps.{LeavesLinks}
-use Rattle.ct_tree_laws.proofs.Edits.{LeavesLinks-held, LeavesLinks-written, IsAlike-entries}
+use Rattle.ct_tree_laws.proofs.Levels.{level_unique, KeepsFirst}
+use Rattle.ct_tree_laws.proofs.Edits.{StaysEven, LeavesLinks-held, LeavesLinks-written, IsAlike-entries}
 
 All-with_entry : (P : Entry → Type 0) (new : Entry) (entries : List Entry) → P new → All P entries → All P (with_entry new entries)
 All-with_entry P new [] here all = All-cons P new [] here all
@@ -49,9 +50,32 @@ posted_inner op page new w t posts of role =
       others = All-with_entry (λ (e : Entry). (leaf : Bool) × IsAt w t leaf (Some e.pair) e.child) entry inner.rest (posts.below.leaf, below_at w t posts.child posts.low node posts.below posts.there of role.key_len) inner.others;
     })
 
+-- the page that is posted comes behind the first one
+posted_first : (op page : ℕ) (new : NodeValue) (w : World) (posts : PostsChild op page new w) → KeepsFirst posts.node new
+posted_first op page new w posts = subst (KeepsFirst posts.node) (sym posts.made) (record { leaf = refl; first = behind })
+  where
+    behind : posts.node.leaf ≡ false → (first : Entry) (rest : List Entry) → posts.node.entries ≡ first ∷ rest → (next : Entry) × (more : List Entry) × (with_entry (record { pair = posts.low; child = posts.child }) posts.node.entries ≡ next ∷ more) × (next.child ≡ first.child)
+    behind inner first rest is =
+        let entry : Entry = record { pair = posts.low; child = posts.child } in
+        let one : posts.first ≡ first = (let both : posts.first ∷ posts.rest ≡ first ∷ rest = sym posts.entries ∙ is in cc) in
+        let after : below posts.low first.pair ≡ false = not_above first.pair posts.low (subst (λ (e : Entry). below e.pair posts.low ≡ true) one posts.above) in
+        (first, with_entry entry rest, ap (with_entry entry) is ∙ cond-false (below posts.low first.pair) (entry ∷ first ∷ rest) (first ∷ with_entry entry rest) after, refl)
+
+-- and stands one level below the node, as all others do
+posted_even : (op page : ℕ) (new : NodeValue) (w : World) (posts : PostsChild op page new w) → StaysEven w page posts.node new
+posted_even op page new w posts inner level at even =
+    let leads = even.below posts.inner in
+    let same : level ≡ suc posts.level.0 = level_unique w level (suc posts.level.0) page at posts.level.1 in
+    let lower : posts.level.0 ≡ leads.0 = omega (arith, same, leads.1) in
+    let entry : Entry = record { pair = posts.low; child = posts.child } in
+    subst (IsEven w level) (sym posts.made) (record {
+      right = even.right;
+      below = λ _. (leads.0, leads.1, All-with_entry (λ (e : Entry). IsLevel w leads.0 e.child) entry posts.node.entries (subst (λ n. IsLevel w n posts.child) lower posts.level.2) leads.2);
+    })
+
 pub LeavesLinks-posts : (op page : ℕ) (new : NodeValue) (w : World) → IsApart w → PostsChild op page new w → LeavesLinks op w (edited op page new w)
 LeavesLinks-posts op page new w apart posts =
-    LeavesLinks-held op page posts.node new w apart posts.held (IsAlike-entries posts.node new (with_entry (record { pair = posts.low; child = posts.child }) posts.node.entries) posts.sound posts.made) (λ inner t of role. posted_inner op page new w t posts of role)
+    LeavesLinks-held op page posts.node new w apart posts.held (IsAlike-entries posts.node new (with_entry (record { pair = posts.low; child = posts.child }) posts.node.entries) posts.sound posts.made) (posted_first op page new w posts) (posted_even op page new w posts) (λ inner t of role. posted_inner op page new w t posts of role)
 
 pub LeavesLinks-crowns : (op page : ℕ) (new : NodeValue) (w : World) → IsApart w → WritesRoot op page new w → LeavesLinks op w (edited op page new w)
 LeavesLinks-crowns op page new w apart writes = LeavesLinks-written op page new w apart writes.blank writes.mine (ap (λ p. is_fresh p w) writes.right ∙ apart.zero)

@@ -6,12 +6,13 @@ use Rattle.std.proofs.lemmas.List.{get_or-set_same, get_or-set_other, length-set
 use Rattle.ct_node.specs.declared.root.Root.{Root}
 use Rattle.ct_node.specs.declared.root.IndexRow.{IndexRow}
 use Rattle.ct_node.specs.Nodes.{NodeValue}
-use Rattle.ct_node.specs.Worlds.{World, Blank, Defines, Holds, DefinitionValue, page_at, has_latch, has_own, has_fresh, is_fresh, rooted, rooted_page, with_root, IsTidy}
+use Rattle.ct_node.specs.Worlds.{World, Blank, Defines, Holds, DefinitionValue, page_at, IsLevel, has_latch, has_own, has_fresh, is_fresh, rooted, rooted_page, with_root, IsTidy}
 use Rattle.ct_tree_laws.specs.declared.rise.Separator.{Separator}
-use Rattle.ct_tree_laws.specs.Trees.{Tree, IsOf, IsInRole, IsTree, IsApart}
-use Rattle.ct_tree_laws.specs.Stands.{IsCrown, IsTidyBut, KeepsKeys}
+use Rattle.ct_tree_laws.specs.Trees.{Tree, IsOf, IsInRole, IsEven, IsTree, IsApart}
+use Rattle.ct_tree_laws.specs.Stands.{IsCrown, IsTidyBut, KeepsKeys, KeepsLevels, KeepsAt}
 use Rattle.ct_tree_laws.proofs.Pages.{stays_linked, is_fresh-edited, has_fresh-edited, is_linked-edited, has_fresh_before, is_fresh_before, is_fresh_from, definition_within}
-use Rattle.ct_tree_laws.proofs.Kept.{KeepsAt, KeepsLinks, IsReached, IsAlike-same, IsNamed}
+use Rattle.ct_tree_laws.proofs.Levels.{KeepsLevels-same}
+use Rattle.ct_tree_laws.proofs.Kept.{KeepsLinks, IsEvenAt, IsReached, IsAlike-same, IsNamed}
 use Rattle.ct_tree_laws.proofs.Steps.{LeavesLinks}
 use Rattle.ct_tree_laws.proofs.Chains.{one_node}
 use Rattle.ct_tree_laws.proofs.Keys.{leaf_at, one_tree, one_root, same_root, Chain-same}
@@ -118,11 +119,16 @@ module _ (op page : ℕ) (at : Root) (w : World) (apart : IsApart w) (t : Tree) 
                 root = (false, record { node = node; is = onward page node held; of = of; key_len = crown.role.key_len ∙ sym tree.key_len ∙ key_len; kind = crown.inner; from = crown.low; linked = root_linked });
               }
 
+  levels : KeepsLevels w (rooted op at page w)
+  levels = KeepsLevels-same w (rooted op at page w) onward
+
   KeepsLinks-rooted : KeepsLinks w (rooted op at page w)
   KeepsLinks-rooted = record {
     onward = λ q v reached. (v, record { is = onward q v reached.is; linked = linked_after q reached.linked }, IsAlike-same v);
     back = λ q v reached leaf. (v, record { is = back q v reached.is; linked = linked_before q (not_root q v reached.is leaf) reached.linked }, IsAlike-same v);
     inner = inner;
+    even = even;
+    levels = levels;
     named = named;
   }
     where
@@ -139,6 +145,15 @@ module _ (op page : ℕ) (at : Root) (w : World) (apart : IsApart w) (t : Tree) 
           let found = same_tree root u also told (subst (IsOf u) same of) in
           subst (λ x. IsInRole w x v) (sym found.1) (subst (IsInRole w t) (sym same) crown.role))
           (λ differ. told.roles q v (back q v reached.is) of (linked_before q differ reached.linked))
+          (cases_eq q page)
+
+      even : (q : ℕ) (v : NodeValue) → IsReached (rooted op at page w) q v → v.leaf ≡ false → (root : Root) (u : Tree) (also : List ℕ) → IsTree w root u also → IsOf u v → IsEvenAt w q v
+      even q v reached kind root u also told of = ⊎_elim
+          (λ one.
+          let same : v ≡ node = node_there v (sym (ap (page_at (rooted op at page w)) one) ∙ reached.is) in
+          let lower = crown.even.0 in
+          (suc lower, subst (IsLevel w (suc lower)) (sym one) (node, crown.first, crown.rest, held, crown.inner, crown.entries, crown.even.1), subst (IsEven w (suc lower)) (sym same) crown.even.2))
+          (λ differ. told.levels q v (back q v reached.is) of (linked_before q differ reached.linked))
           (cases_eq q page)
 
   IsApart-rooted : IsApart (rooted op at page w)

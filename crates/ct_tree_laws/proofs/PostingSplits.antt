@@ -9,7 +9,7 @@ use Rattle.ct_node.specs.declared.target.Target.TheVariants.{At}
 use Rattle.ct_node.specs.Nodes.{NodeValue, is_within, is_from, is_below, capacity_of}
 use Rattle.ct_node.specs.Halves.{middle_of, upper_half, lower_half}
 use Rattle.ct_node.specs.Roles.{first_of}
-use Rattle.ct_node.specs.Worlds.{World, Blank, Holds, page_at, has_latch, has_own, has_fresh, is_fresh, is_own_of, with_fresh, with_holds, edited, IsHeld, WritesRight, CutsLeft, IsTidy}
+use Rattle.ct_node.specs.Worlds.{World, Blank, Holds, page_at, has_latch, has_own, has_fresh, is_fresh, is_own_of, IsBeside, IsOneAbove, with_fresh, with_holds, edited, IsHeld, WritesRight, CutsLeft, IsTidy}
 use Rattle.ct_node.proofs.Orders.{below}
 use Rattle.ct_tree_laws.specs.declared.walk.Walk.{Walk}
 use Rattle.ct_tree_laws.specs.declared.walk.Stage.{Stage}
@@ -17,10 +17,11 @@ use Rattle.ct_tree_laws.specs.declared.walk.Stage.TheVariants as stage
 use Rattle.ct_tree_laws.specs.declared.rise.Separator.{Separator}
 use Rattle.ct_tree_laws.specs.declared.rise.Rise.TheVariants as rise
 use Rattle.ct_tree_laws.specs.Trees.{Tree, IsInRole, IsLowFor, Chain}
-use Rattle.ct_tree_laws.specs.Stands.{HasOnly, HasBoth, IsTidyBut, IsSeparator, IsAbove, IsCrowded, IsHalf, StandsIn, Stands, Stepped, KeepsKeys}
+use Rattle.ct_tree_laws.specs.Stands.{HasOnly, HasBoth, IsTidyBut, IsSeparator, IsAbove, IsCrowded, IsHalf, StandsIn, Stands, Stepped, KeepsKeys, KeepsLevels}
 use Rattle.ct_tree_laws.proofs.Holders.{list_any_filtered, list_any-filter, list_any-with_hold_old, list_any-with_hold_more, list_any_gone}
 use Rattle.ct_tree_laws.proofs.Taking.{owned, is_of_parts, is_of_from, is_own_parts, has_own-with_hold_new}
 use Rattle.ct_tree_laws.proofs.Pages.{page_within, page_at-edited, page_at-edited_other, page_at-with_fresh, stays_linked, is_fresh_from, has_fresh_before, has_fresh-edited_mine, is_linked-edited, is_fresh-with_fresh, has_fresh-with_fresh, has_fresh_new}
+use Rattle.ct_tree_laws.proofs.Levels.{beside_of, beside_kept, one_above_kept, beside_one_above, level_of_upper}
 use Rattle.ct_tree_laws.proofs.Chains.{one_node}
 use Rattle.ct_tree_laws.proofs.Steps.{IsStep, IsStep-next, IsStep-with_fresh, IsStep-from_links}
 use Rattle.ct_tree_laws.proofs.Edits.{LeavesLinks-right, not_theirs_held}
@@ -28,24 +29,25 @@ use Rattle.ct_tree_laws.proofs.Cuts.{IsStep-cut, low-upper, high-lower}
 use Rattle.ct_tree_laws.proofs.Keys.{KeepsKeys-with_fresh, KeepsKeys-right, KeepsKeys-cut}
 use Rattle.ct_tree_laws.proofs.Walking.{onward_of, past_low}
 use Rattle.ct_tree_laws.proofs.Turns.{not_founded}
+use Rattle.ct_tree_laws.proofs.Capacities.{capacity_four}
 use Rattle.ct_tree_laws.proofs.PutTurns.{stepped_by, freed, free_step, free_keys}
 use Rattle.ct_tree_laws.proofs.PostingZeros.{IsMiddle}
 use Rattle.ct_tree_laws.proofs.PostingTurns.{separator_after, owned_step}
 
 -- the node that is to be split, as the operation has it
 pub crowded_held : (walk : Walk) (from : Stage) (s : Separator) (page : ℕ) (node : NodeValue) (w : World) (here : StandsIn walk from w) → IsCrowded w here.tree walk.op s page node → IsHeld walk.op page node w
-crowded_held walk from s page node w here (chosen, enough) =
+crowded_held walk from s page node w here (chosen, enough, full) =
     record { is = chosen.is; owned = chosen.owned; linked = chosen.linked; onward = onward_of w here.tree node here.apart (here.is.roles page node chosen.is chosen.of chosen.linked) }
 
 crowded_role : (walk : Walk) (from : Stage) (s : Separator) (page : ℕ) (node : NodeValue) (w : World) (here : StandsIn walk from w) → IsCrowded w here.tree walk.op s page node → IsInRole w here.tree node
-crowded_role walk from s page node w here (chosen, enough) = here.is.roles page node chosen.is chosen.of chosen.linked
+crowded_role walk from s page node w here (chosen, enough, full) = here.is.roles page node chosen.is chosen.of chosen.linked
 
 crowded_seen : (walk : Walk) (from : Stage) (s : Separator) (page : ℕ) (known node : NodeValue) (w : World) (here : StandsIn walk from w) → IsCrowded w here.tree walk.op s page known → page_at w page ≡ Holds node → IsCrowded w here.tree walk.op s page node
 crowded_seen walk from s page known node w here crowded is = subst (IsCrowded w here.tree walk.op s page) (sym (one_node w page known node crowded.0.is is)) crowded
 
 -- it stays so where its page stays
-crowded_kept : (w now : World) (t : Tree) (op : ℕ) (s : Separator) (page : ℕ) (node : NodeValue) → page_at now page ≡ page_at w page → has_own op page now ≡ true → is_fresh page now ≡ false → IsCrowded w t op s page node → IsCrowded now t op s page node
-crowded_kept w now t op s page node same own linked (chosen, enough) = (record { is = same ∙ chosen.is; owned = own; linked = linked; of = chosen.of; inner = chosen.inner; within = chosen.within }, enough)
+crowded_kept : (w now : World) (t : Tree) (op : ℕ) (s : Separator) (page : ℕ) (node : NodeValue) → page_at now page ≡ page_at w page → has_own op page now ≡ true → is_fresh page now ≡ false → KeepsLevels w now → IsCrowded w t op s page node → IsCrowded now t op s page node
+crowded_kept w now t op s page node same own linked levels (chosen, enough, full) = (record { is = same ∙ chosen.is; owned = own; linked = linked; of = chosen.of; inner = chosen.inner; within = chosen.within; level = one_above_kept w now page s.child levels chosen.level }, enough, full)
 
 -- a page that is allocated is blank
 pub tidy_allocated : (op : ℕ) (w : World) → IsTidy op w → IsTidy op (with_fresh op w)
@@ -60,7 +62,7 @@ above_allocated walk s page right w now stands new is = subst (Stepped walk (sta
       separator_after walk.op w (with_fresh walk.op w) here.tree s (IsStep-with_fresh walk.op w here.apart) here.place.0,
       (
         tidy_allocated walk.op w here.place.1.0,
-        (node, crowded_kept w (with_fresh walk.op w) here.tree walk.op s page node (page_at-with_fresh walk.op w page) crowded.0.owned (is_fresh-with_fresh walk.op w page (page_within w page node crowded.0.is) ∙ crowded.0.linked) crowded),
+        (node, crowded_kept w (with_fresh walk.op w) here.tree walk.op s page node (page_at-with_fresh walk.op w page) crowded.0.owned (is_fresh-with_fresh walk.op w page (page_within w page node crowded.0.is) ∙ crowded.0.linked) (IsStep-with_fresh walk.op w here.apart).levels crowded),
         subst (λ q. has_fresh walk.op q (with_fresh walk.op w) ≡ true) (sym new) (has_fresh-with_fresh walk.op w),
         here.place.1.2,
       ),
@@ -99,7 +101,7 @@ right_owned walk s page right w now stands free is = subst (Stepped walk (stage.
       separator_after walk.op w after here.tree s (owned_step walk right w free here.apart) here.place.0,
       (
         here.place.1.0,
-        (node, crowded_kept w after here.tree walk.op s page node refl (has_own-with_hold_more right page walk.op w crowded.0.owned) crowded.0.linked crowded),
+        (node, crowded_kept w after here.tree walk.op s page node refl (has_own-with_hold_more right page walk.op w crowded.0.owned) crowded.0.linked (owned_step walk right w free here.apart).levels crowded),
         here.place.1.2,
         has_own-with_hold_new right walk.op w,
         both_owned page right walk.op w here.place.1.3,
@@ -137,7 +139,7 @@ above_written walk s page right node new w now stands is made same = subst (Step
     crowded here =
         let old = crowded_seen walk (stage.Post s (rise.Split page right)) s page here.place.1.1.0 node w here here.place.1.1.1 is in
         let apart : page ≡ right → ⊥ = λ one. false≢true (sym old.0.linked ∙ subst (λ q. is_fresh q w ≡ true) (sym one) (is_fresh_from walk.op right w here.place.1.2)) in
-        crowded_kept w (edited walk.op right new w) here.tree walk.op s page node (page_at-edited_other walk.op right new w page apart) old.0.owned (stays_linked walk.op right new w page old.0.linked) old
+        crowded_kept w (edited walk.op right new w) here.tree walk.op s page node (page_at-edited_other walk.op right new w page apart) old.0.owned (stays_linked walk.op right new w page old.0.linked) (step here).levels old
 
     written : (here : StandsIn walk (stage.Post s (rise.Split page right)) w) → page_at (edited walk.op right new w) right ≡ Holds (upper_half node)
     written here = page_at-edited walk.op right new w (here.apart.within right (is_fresh_from walk.op right w here.place.1.2)) ∙ ap Holds made
@@ -183,6 +185,15 @@ module _ (walk : Walk) (s : Separator) (page right : ℕ) (node : NodeValue) (w 
   pub cut_above_step : IsStep walk.op w (edited walk.op page (lower_half right node) w)
   cut_above_step = IsStep-cut walk.op page right node w here.apart held crowded.1 here.place.1.2 upper role.node_is
 
+  -- both halves are on the node's level, one above the separator's page
+  halves_beside : IsBeside w page right
+  halves_beside =
+      let level = here.is.levels page node is crowded.0.of crowded.0.linked in
+      beside_of w level.0 page right level.1 (level_of_upper w level.0 page right node crowded.1 is upper level.1 level.2)
+
+  right_above : IsOneAbove w right s.child
+  right_above = beside_one_above w page right s.child halves_beside crowded.0.level
+
   not_right : right ≡ page → ⊥
   not_right one = false≢true (sym held.linked ∙ subst (λ p. is_fresh p w ≡ true) one (is_fresh_from walk.op right w here.place.1.2))
 
@@ -212,39 +223,44 @@ module _ (walk : Walk) (s : Separator) (page right : ℕ) (node : NodeValue) (w 
     record { node = upper_half node; is = right_there; of = record { file = crowded.0.of.file; index = crowded.0.of.index }; key_len = role.key_len; kind = refl; from = low-upper node crowded.1 ∙ ap Some middle.is; linked = right_linked },
     middle.key ∙ role.key_len,
     subst (λ n. below (first_of n None) low ≡ true) role.key_len middle.up,
+    beside_kept w (edited walk.op page (lower_half right node) w) page right cut_above_step.levels halves_beside,
   )
 
   low_for : (bound : Option Pair) → is_from bound s.low ≡ true → IsLowFor (At s.low) bound
   low_for None from = tt
   low_for (Some low) from = past_low (At s.low) low from
 
-  pub left_half : (low : Pair) → IsMiddle node low → is_within (lower_half right node).low (lower_half right node).high s.low ≡ true → (now : World) → IsStep walk.op (edited walk.op page (lower_half right node) w) now → page_at now page ≡ Holds (lower_half right node) → has_own walk.op page now ≡ true → is_fresh page now ≡ false → IsAbove now here.tree s page × IsHalf now here.tree walk.op s page (Some (record { low = low; child = right; left = page }))
+  pub left_half : (low : Pair) → IsMiddle node low → is_within (lower_half right node).low (lower_half right node).high s.low ≡ true → (now : World) → IsStep walk.op (edited walk.op page (lower_half right node) w) now → page_at now page ≡ Holds (lower_half right node) → has_own walk.op page now ≡ true → is_fresh page now ≡ false → IsAbove now here.tree s s.child page × IsHalf now here.tree walk.op s page (Some (record { low = low; child = right; left = page }))
   left_half low middle inside now step there own linked =
       let enough = crowded.1 in
       let room = role.node_is.room in
+      let four = capacity_four node.key_len false role.node_is.short_key in
       let fits : length node.entries ≤ capacity_of node.key_len false = subst (λ kind. length node.entries ≤ capacity_of node.key_len kind) crowded.0.inner room in
-      let long = length-take-le (middle_of node) node.entries (omega arith) in (
-        (node.low, record { node = lower_half right node; is = there; of = record { file = crowded.0.of.file; index = crowded.0.of.index }; key_len = role.key_len; kind = crowded.0.inner; from = refl; linked = linked }, low_for node.low within.0),
+      let long = length-take-le (middle_of node) node.entries (omega arith) in
+      let level = one_above_kept w now page s.child (λ n q at. step.levels n q (cut_above_step.levels n q at)) crowded.0.level in (
+        (node.low, record { node = lower_half right node; is = there; of = record { file = crowded.0.of.file; index = crowded.0.of.index }; key_len = role.key_len; kind = crowded.0.inner; from = refl; linked = linked }, low_for node.low within.0, level),
         (
           separator_after walk.op (edited walk.op page (lower_half right node) w) now here.tree (record { low = low; child = right; left = page }) step (next_separator low middle),
-          (lower_half right node, record { is = there; owned = own; linked = linked; of = record { file = crowded.0.of.file; index = crowded.0.of.index }; inner = crowded.0.inner; within = inside }, omega arith),
+          (lower_half right node, record { is = there; owned = own; linked = linked; of = record { file = crowded.0.of.file; index = crowded.0.of.index }; inner = crowded.0.inner; within = inside; level = level }, omega arith),
         ),
       )
 
-  pub right_half : (low : Pair) → IsMiddle node low → is_within (lower_half right node).low (lower_half right node).high s.low ≡ false → (now : World) → IsStep walk.op (edited walk.op page (lower_half right node) w) now → page_at now right ≡ Holds (upper_half node) → has_own walk.op right now ≡ true → is_fresh right now ≡ false → IsAbove now here.tree s right × IsHalf now here.tree walk.op s right (Some (record { low = low; child = right; left = page }))
+  pub right_half : (low : Pair) → IsMiddle node low → is_within (lower_half right node).low (lower_half right node).high s.low ≡ false → (now : World) → IsStep walk.op (edited walk.op page (lower_half right node) w) now → page_at now right ≡ Holds (upper_half node) → has_own walk.op right now ≡ true → is_fresh right now ≡ false → IsAbove now here.tree s s.child right × IsHalf now here.tree walk.op s right (Some (record { low = low; child = right; left = page }))
   right_half low middle outside now step there own linked =
       let enough = crowded.1 in
       let room = role.node_is.room in
+      let four = capacity_four node.key_len false role.node_is.short_key in
       let fits : length node.entries ≤ capacity_of node.key_len false = subst (λ kind. length node.entries ≤ capacity_of node.key_len kind) crowded.0.inner room in
       let long = length-drop (middle_of node) node.entries in
       let bound : (lower_half right node).high ≡ Some low = high-lower right node crowded.1 ∙ ap Some middle.is in
       let not_below : below s.low low ≡ false = false_from_ne_true (below s.low low) (λ lower. false≢true (sym outside ∙ and_from (is_from node.low s.low) (is_below (lower_half right node).high s.low) within.0 (subst (λ high. is_below high s.low ≡ true) (sym bound) lower))) in
       let from : is_from (Some low) s.low ≡ true = ap not not_below in
-      let start : (upper_half node).low ≡ Some low = low-upper node crowded.1 ∙ ap Some middle.is in (
-        (Some low, record { node = upper_half node; is = there; of = record { file = crowded.0.of.file; index = crowded.0.of.index }; key_len = role.key_len; kind = crowded.0.inner; from = start; linked = linked }, low_for (Some low) from),
+      let start : (upper_half node).low ≡ Some low = low-upper node crowded.1 ∙ ap Some middle.is in
+      let level = one_above_kept w now right s.child (λ n q at. step.levels n q (cut_above_step.levels n q at)) right_above in (
+        (Some low, record { node = upper_half node; is = there; of = record { file = crowded.0.of.file; index = crowded.0.of.index }; key_len = role.key_len; kind = crowded.0.inner; from = start; linked = linked }, low_for (Some low) from, level),
         (
           separator_after walk.op (edited walk.op page (lower_half right node) w) now here.tree (record { low = low; child = right; left = page }) step (next_separator low middle),
-          (upper_half node, record { is = there; owned = own; linked = linked; of = record { file = crowded.0.of.file; index = crowded.0.of.index }; inner = crowded.0.inner; within = and_from (is_from (upper_half node).low s.low) (is_below node.high s.low) (subst (λ b. is_from b s.low ≡ true) (sym start) from) within.1 }, omega arith),
+          (upper_half node, record { is = there; owned = own; linked = linked; of = record { file = crowded.0.of.file; index = crowded.0.of.index }; inner = crowded.0.inner; within = and_from (is_from (upper_half node).low s.low) (is_below node.high s.low) (subst (λ b. is_from b s.low ≡ true) (sym start) from) within.1; level = level }, omega arith),
         ),
       )
 

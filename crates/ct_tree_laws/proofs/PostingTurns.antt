@@ -1,7 +1,6 @@
 -- The turns that post a separator: the node above is found, made the operation's own, and written.
 use Rattle.std.proofs.Common.{◌≡◌, ℕ, ◌+◌, ◌-◌, ◌*◌, ◌/◌, ◌<◌, ◌≤◌, Bool, true, false, List, ◌∷◌, length, map, is_some, refl, sym, ap, ◌∙◌, arith, subst, ⊎_elim, Option, Some, None, find}
 use Rattle.std.specs.Prelude.{IsTrue, nat_lt}
-use Rattle.std.proofs.Math.Nat.{le-div_iff_mul-le}
 use Rattle.std.proofs.lemmas.Bool.{cases_Bool, false≢true, true≢false, and_parts, or_parts, ltb-false}
 use Rattle.ct_latch.specs.Latches.{bars, with_hold}
 use Rattle.ct_node.specs.declared.root.IndexRow.{IndexRow}
@@ -10,7 +9,7 @@ use Rattle.ct_node.specs.declared.target.Place.TheVariants as place
 use Rattle.ct_node.specs.Nodes.{NodeValue, IsNode, pair_in, pairs_in, has_pair, is_within, is_from, is_below, with_entry, capacity_of}
 use Rattle.ct_node.specs.Roles.{begins_at_low}
 use Rattle.ct_node.specs.Places.{is_past, next_place}
-use Rattle.ct_node.specs.Worlds.{World, Holds, page_at, with_holds, edited, row_in, IsHeld, PostsChild, IsTidy}
+use Rattle.ct_node.specs.Worlds.{World, Holds, page_at, IsBeside, with_holds, edited, row_in, IsHeld, PostsChild, IsTidy}
 use Rattle.ct_node.proofs.Orders.{same}
 use Rattle.ct_tree_laws.specs.declared.walk.Walk.{Walk}
 use Rattle.ct_tree_laws.specs.declared.walk.Stage.{Stage}
@@ -18,15 +17,17 @@ use Rattle.ct_tree_laws.specs.declared.walk.Stage.TheVariants as stage
 use Rattle.ct_tree_laws.specs.declared.rise.Separator.{Separator}
 use Rattle.ct_tree_laws.specs.declared.rise.Rise.TheVariants as rise
 use Rattle.ct_tree_laws.specs.Trees.{Tree, IsAt, IsInner, IsTree, IsApart, IsNear, Chain}
-use Rattle.ct_tree_laws.specs.Stands.{HasNone, IsSeparator, IsAbove, IsChosen, IsHalf, IsAtStage, StandsIn, Stands, Stepped, KeepsKeys, after_post}
+use Rattle.ct_tree_laws.specs.Stands.{HasNone, IsSeparator, IsAbove, IsAboveIf, IsChosen, IsHalf, IsAtStage, StandsIn, Stands, Stepped, KeepsKeys, after_post}
 use Rattle.ct_tree_laws.proofs.Taking.{owned, ChangesLatches-own, has_own-with_hold_new}
 use Rattle.ct_tree_laws.proofs.Pages.{page_at-edited_other}
+use Rattle.ct_tree_laws.proofs.Levels.{beside_kept, one_above_kept, one_above_beside, beside_one_above}
 use Rattle.ct_tree_laws.proofs.Kept.{KeepsLinks}
 use Rattle.ct_tree_laws.proofs.Chains.{one_node}
 use Rattle.ct_tree_laws.proofs.Steps.{IsStep, IsStep-next, IsStep-latches, IsStep-from_links}
 use Rattle.ct_tree_laws.proofs.Keys.{Chain-same, KeepsKeys-latches, leaf_at}
-use Rattle.ct_tree_laws.proofs.Walking.{IsSeen, seen_near, near_right, near_down, last_here, right_at_of, within_last, onward_of}
+use Rattle.ct_tree_laws.proofs.Walking.{IsSeen, seen_near, near_right, near_down, last_here, right_at_of, within_last, onward_of, past_beside, right_beside, down_above}
 use Rattle.ct_tree_laws.proofs.Turns.{at_stage, stepped_same, not_founded}
+use Rattle.ct_tree_laws.proofs.Capacities.{full_enough}
 use Rattle.ct_tree_laws.proofs.PutTurns.{stepped_by, freed, free_step, free_keys, freed_none, only_owned, tidy_edited}
 use Rattle.ct_tree_laws.proofs.PostingEdits.{LeavesLinks-posts}
 use Rattle.ct_tree_laws.proofs.PostingZeros.{first_below}
@@ -54,10 +55,10 @@ root_down walk s page w now stands same told = stepped_same walk (stage.Post s (
     (here.place.0, (here.place.1.0, root_near walk (stage.Post s rise.Root) s page w here told, tt, here.place.1.1)))
 
 -- on the way to the child, or at it
-pub way_above : (walk : Walk) (s : Separator) (page above : ℕ) (w : World) → Stands walk (stage.Post s (rise.Down page (Some above))) w → Stands walk (stage.Post s (rise.Above above)) w
-way_above walk s page above w stands founded =
+pub way_above : (walk : Walk) (s : Separator) (page above : ℕ) (w : World) → page ≡ s.child → Stands walk (stage.Post s (rise.Down page (Some above))) w → Stands walk (stage.Post s (rise.Above above)) w
+way_above walk s page above w child stands founded =
     let here = stands founded in
-    at_stage walk (stage.Post s (rise.Down page (Some above))) (stage.Post s (rise.Above above)) w here (here.place.0, (here.place.1.0, here.place.1.2, here.place.1.3))
+    at_stage walk (stage.Post s (rise.Down page (Some above))) (stage.Post s (rise.Above above)) w here (here.place.0, (here.place.1.0, subst (λ below. IsAbove w here.tree s below above) child here.place.1.2, here.place.1.3))
 
 pub way_ends : (walk : Walk) (s : Separator) (page : ℕ) (above : Option ℕ) (w : World) → Stands walk (stage.Post s (rise.Down page above)) w → Stands walk stage.Start w
 way_ends walk s page above w stands founded =
@@ -67,11 +68,18 @@ way_ends walk s page above w stands founded =
 way_seen : (walk : Walk) (s : Separator) (page : ℕ) (above : Option ℕ) (node : NodeValue) (w : World) → page_at w page ≡ Holds node → (here : StandsIn walk (stage.Post s (rise.Down page above)) w) → IsSeen w here.tree (At s.low) page node
 way_seen walk s page above node w is here = seen_near w walk.at here.tree here.leaves (At s.low) page node here.is here.place.1.1 is
 
+-- what is one level above a page is one level above each page beside it
+above_beside : (w : World) (t : Tree) (s : Separator) (page other : ℕ) (above : Option ℕ) → IsBeside w page other → IsAboveIf w t s page above → IsAboveIf w t s other above
+above_beside w t s page other None beside is = tt
+above_beside w t s page other (Some above) beside is = (is.0, is.1, is.2, one_above_beside w above page other is.3 beside)
+
 pub way_right : (walk : Walk) (s : Separator) (page : ℕ) (above : Option ℕ) (node : NodeValue) (q : ℕ) (w : World) → Stands walk (stage.Post s (rise.Down page above)) w → page_at w page ≡ Holds node → place.Right q ≡ next_place node (At s.low) → Stands walk (stage.Post s (rise.Down q above)) w
 way_right walk s page above node q w stands is on founded =
     let here = stands founded in
+    let seen = way_seen walk s page above node w is here in
+    let beside = right_beside w walk.at here.tree here.leaves (At s.low) page node q here.is seen (sym on) in
     at_stage walk (stage.Post s (rise.Down page above)) (stage.Post s (rise.Down q above)) w here
-    (here.place.0, (here.place.1.0, near_right w here.tree (At s.low) page node q (way_seen walk s page above node w is here) (sym on), here.place.1.2, here.place.1.3))
+    (here.place.0, (here.place.1.0, near_right w here.tree (At s.low) page node q seen (sym on), above_beside w here.tree s page q above beside here.place.1.2, here.place.1.3))
 
 pub way_down : (walk : Walk) (s : Separator) (page : ℕ) (above : Option ℕ) (node : NodeValue) (q : ℕ) (w : World) → Stands walk (stage.Post s (rise.Down page above)) w → page_at w page ≡ Holds node → place.Down q ≡ next_place node (At s.low) → Stands walk (stage.Post s (rise.Down q (Some page))) w
 way_down walk s page above node q w stands is on founded =
@@ -79,7 +87,7 @@ way_down walk s page above node q w stands is on founded =
     let seen = way_seen walk s page above node w is here in
     let near = near_down w here.tree (At s.low) page node q seen (sym on) in
     at_stage walk (stage.Post s (rise.Down page above)) (stage.Post s (rise.Down q (Some page))) w here
-    (here.place.0, (here.place.1.0, near.0, (node.low, record { node = node; is = is; of = seen.of; key_len = seen.role.key_len; kind = near.1; from = refl; linked = seen.linked }, seen.low), here.place.1.3))
+    (here.place.0, (here.place.1.0, near.0, (node.low, record { node = node; is = is; of = seen.of; key_len = seen.role.key_len; kind = near.1; from = refl; linked = seen.linked }, seen.low, down_above w walk.at here.tree here.leaves (At s.low) page node q here.is seen (sym on)), here.place.1.3))
 
 pub way_stepped : (walk : Walk) (s : Separator) (page : ℕ) (above : Option ℕ) (to : Stage) (w now : World) → now ≡ w → Stands walk to w → Stepped walk to w now
 way_stepped walk s page above to w now same stands = stepped_same walk to w now same stands
@@ -99,10 +107,10 @@ owned_keys walk from page w now stands free is = subst (KeepsKeys w) (sym is) (K
 
 -- what is known of a separator and of a node above stands after a step
 pub separator_after : (op : ℕ) (w now : World) (t : Tree) (s : Separator) → IsStep op w now → IsSeparator w t s → IsSeparator now t s
-separator_after op w now t s step is = (is.0, step.at t is.0 (Some s.low) s.child is.1, is.2, is.3)
+separator_after op w now t s step is = (is.0, step.at t is.0 (Some s.low) s.child is.1, is.2, is.3, beside_kept w now s.left s.child step.levels is.4)
 
-pub above_after : (op : ℕ) (w now : World) (t : Tree) (s : Separator) (page : ℕ) → IsStep op w now → IsAbove w t s page → IsAbove now t s page
-above_after op w now t s page step is = (is.0, step.at t false is.0 page is.1, is.2)
+pub above_after : (op : ℕ) (w now : World) (t : Tree) (s : Separator) (page : ℕ) → IsStep op w now → IsAbove w t s s.child page → IsAbove now t s s.child page
+above_after op w now t s page step is = (is.0, step.at t false is.0 page is.1, is.2, one_above_kept w now page s.child step.levels is.3)
 
 pub above_owned : (walk : Walk) (s : Separator) (page : ℕ) (w now : World) → Stands walk (stage.Post s (rise.Above page)) w → find (bars page walk.op true) w.holds ≡ None → now ≡ with_holds (with_hold (owned page walk.op) w.holds) w → Stepped walk (stage.Post s (rise.Held page None)) w now
 above_owned walk s page w now stands free is = subst (Stepped walk (stage.Post s (rise.Held page None)) w) (sym is)
@@ -122,7 +130,7 @@ held_seen walk s page next node w is here =
     (seen_near w walk.at here.tree here.leaves (At s.low) page node here.is (false, above.0, above.1, above.2) is, sym (ap (λ (v : NodeValue). v.leaf) same_node) ∙ above.1.kind)
 
 -- where the separator is not within its bounds, it is to the right
-held_past : (walk : Walk) (s : Separator) (page : ℕ) (next : Option Separator) (node : NodeValue) (w : World) → page_at w page ≡ Holds node → is_within node.low node.high s.low ≡ false → StandsIn walk (stage.Post s (rise.Held page next)) w → is_past node.high (At s.low) ≡ true
+pub held_past : (walk : Walk) (s : Separator) (page : ℕ) (next : Option Separator) (node : NodeValue) (w : World) → page_at w page ≡ Holds node → is_within node.low node.high s.low ≡ false → StandsIn walk (stage.Post s (rise.Held page next)) w → is_past node.high (At s.low) ≡ true
 held_past walk s page next node w is outside here = ⊎_elim
     (λ past. past)
     (λ within. absurd (false≢true (sym outside ∙ within_last node s.low (held_seen walk s page next node w is here).0.low within)))
@@ -135,13 +143,14 @@ held_right walk s page next node w mid now stands is outside same gives = subst 
     let step = free_step page walk.op w here.apart in
     let seen = held_seen walk s page next node w is here in
     let found = right_at_of w here.tree node (At s.low) seen.0.role (held_past walk s page next node w is outside here) in
-    let right : IsAt w here.tree false (Some found.0) node.right = subst (λ kind. IsAt w here.tree kind (Some found.0) node.right) seen.1 found.1 in (
+    let right : IsAt w here.tree false (Some found.0) node.right = subst (λ kind. IsAt w here.tree kind (Some found.0) node.right) seen.1 found.1 in
+    let level = beside_one_above w page node.right s.child (past_beside w walk.at here.tree here.leaves (At s.low) page node here.is seen.0 (held_past walk s page next node w is outside here)) here.place.1.1.3 in (
       separator_after walk.op w (freed page walk.op w) here.tree s step here.place.0,
-      (here.place.1.0, above_after walk.op w (freed page walk.op w) here.tree s node.right step (Some found.0, right, found.2), freed_none page walk.op w here.place.1.3),
+      (here.place.1.0, above_after walk.op w (freed page walk.op w) here.tree s node.right step (Some found.0, right, found.2, level), freed_none page walk.op w here.place.1.3),
     )))
 
 -- a half of a split has the separator within its bounds, and room for it
-half_of : (w : World) (t : Tree) (op : ℕ) (s : Separator) (page : ℕ) (next : Option Separator) → is_some next ≡ true → IsHalf w t op s page next → (node : NodeValue) × IsChosen w t op s page node × (length node.entries < capacity_of node.key_len false)
+half_of : (w : World) (t : Tree) (op : ℕ) (s : Separator) (page : ℕ) (next : Option Separator) → is_some next ≡ true → IsHalf w t op s page next → (node : NodeValue) × IsChosen w t op s page node × (length node.entries + 1 < capacity_of node.key_len false)
 half_of w t op s page None some half = absurd (false≢true some)
 half_of w t op s page (Some next) some half = half.1
 
@@ -157,8 +166,18 @@ half_fits walk s page next node w mid stands is same some full = not_founded w m
     let here = stands founded in
     let half = half_of w here.tree walk.op s page next some here.place.1.4 in
     let one : half.0 ≡ node = one_node w page node half.0 is half.1.is in
-    let room : length node.entries < capacity_of node.key_len false = subst (λ (v : NodeValue). length v.entries < capacity_of v.key_len false) one half.2 in
-    full (subst (λ kind. length node.entries < capacity_of node.key_len kind) (sym (held_seen walk s page next node w is here).1) room))
+    let room : length node.entries + 1 < capacity_of node.key_len false = subst (λ (v : NodeValue). length v.entries + 1 < capacity_of v.key_len false) one half.2 in
+    let less : length node.entries < capacity_of node.key_len false = omega arith in
+    full (subst (λ kind. length node.entries < capacity_of node.key_len kind) (sym (held_seen walk s page next node w is here).1) less))
+
+-- and for one more entry
+pub half_roomy : (walk : Walk) (s : Separator) (page : ℕ) (next : Option Separator) (node : NodeValue) (w mid : World) → Stands walk (stage.Post s (rise.Held page next)) w → page_at w page ≡ Holds node → mid ≡ w → is_some next ≡ true → (length node.entries + 1 < capacity_of node.key_len node.leaf → ⊥) → mid.founded ≡ false
+half_roomy walk s page next node w mid stands is same some full = not_founded w mid same (λ founded.
+    let here = stands founded in
+    let half = half_of w here.tree walk.op s page next some here.place.1.4 in
+    let one : half.0 ≡ node = one_node w page node half.0 is half.1.is in
+    let room : length node.entries + 1 < capacity_of node.key_len false = subst (λ (v : NodeValue). length v.entries + 1 < capacity_of v.key_len false) one half.2 in
+    full (subst (λ kind. length node.entries + 1 < capacity_of node.key_len kind) (sym (held_seen walk s page next node w is here).1) room))
 
 -- the node is one that the separator may be posted to
 pub held_for : (walk : Walk) (s : Separator) (page : ℕ) (next : Option Separator) (node : NodeValue) (w : World) → page_at w page ≡ Holds node → (here : StandsIn walk (stage.Post s (rise.Held page next)) w) → (node.leaf ≡ false) × (node.key_len ≡ length s.low.key) × IsInner w here.tree node
@@ -184,24 +203,13 @@ held_done walk s page next w now stands gives = subst (Stepped walk (after_post 
 pub rise_tidy : (walk : Walk) (s : Separator) (page : ℕ) (next : Option Separator) (w mid : World) → Stands walk (stage.Post s (rise.Held page next)) w → mid ≡ w → IsTrue mid.founded → IsTidy walk.op mid
 rise_tidy walk s page next w mid stands same founded = subst (IsTidy walk.op) (sym same) (stands (sym (ap (λ (v : World). v.founded) same) ∙ founded)).place.1.0
 
--- a node without room has two entries and more
-full_enough : (key_len count : ℕ) (leaf : Bool) → key_len ≤ 128 → nat_lt count (capacity_of key_len leaf) ≡ false → 2 ≤ count
-full_enough key_len count true short full =
-    let room : 2 ≤ (3968 - 2 * (9 + key_len)) / (key_len + 8) = (le-div_iff_mul-le {k = key_len + 8} {x = 2} {y = 3968 - 2 * (9 + key_len)} (omega arith)).1 (omega arith) in
-    let most = ltb-false count ((3968 - 2 * (9 + key_len)) / (key_len + 8)) full in
-    omega arith
-full_enough key_len count false short full =
-    let room : 2 ≤ (3968 - 2 * (9 + key_len)) / (key_len + 16) = (le-div_iff_mul-le {k = key_len + 16} {x = 2} {y = 3968 - 2 * (9 + key_len)} (omega arith)).1 (omega arith) in
-    let most = ltb-false count ((3968 - 2 * (9 + key_len)) / (key_len + 16)) full in
-    omega arith
-
 -- a full node is to be split
 pub held_full : (walk : Walk) (s : Separator) (page : ℕ) (next : Option Separator) (node : NodeValue) (w now : World) → Stands walk (stage.Post s (rise.Held page next)) w → now ≡ w → page_at w page ≡ Holds node → is_within node.low node.high s.low ≡ true → nat_lt (length node.entries) (capacity_of node.key_len node.leaf) ≡ false → Stepped walk (stage.Post s (rise.Full page)) w now
 held_full walk s page next node w now stands same is within full = stepped_same walk (stage.Post s (rise.Full page)) w now same (λ founded.
     let here = stands founded in
     let seen = held_seen walk s page next node w is here in
     at_stage walk (stage.Post s (rise.Held page next)) (stage.Post s (rise.Full page)) w here
-    (here.place.0, (here.place.1.0, (node, (record { is = is; owned = here.place.1.2; linked = seen.0.linked; of = seen.0.of; inner = seen.1; within = within }, full_enough node.key_len (length node.entries) node.leaf seen.0.role.node_is.short_key full)), here.place.1.3)))
+    (here.place.0, (here.place.1.0, (node, (record { is = is; owned = here.place.1.2; linked = seen.0.linked; of = seen.0.of; inner = seen.1; within = within; level = here.place.1.1.3 }, full_enough node.key_len (length node.entries) node.leaf seen.0.role.node_is.short_key full, full)), here.place.1.3)))
 
 -- the separator is posted
 held_of : (walk : Walk) (s : Separator) (page : ℕ) (next : Option Separator) (node : NodeValue) (w : World) → page_at w page ≡ Holds node → (here : StandsIn walk (stage.Post s (rise.Held page next)) w) → IsHeld walk.op page node w
@@ -234,6 +242,7 @@ posts_child walk s page next node new w is within absent sound made here =
       absent = absent;
       within = within;
       there = record { is = below_it.is; linked = below_it.linked; file = below_it.of.file ∙ sym seen.0.of.file; index = below_it.of.index ∙ sym seen.0.of.index; key_len = below_it.key_len ∙ sym role.key_len; from = below_it.from };
+      level = here.place.1.1.3;
       sound = sound;
       made = made;
     }

@@ -15,7 +15,7 @@ use Rattle.ct_tree_laws.specs.declared.walk.Walk.{Walk}
 use Rattle.ct_tree_laws.specs.declared.walk.Stage.{Stage}
 use Rattle.ct_tree_laws.specs.declared.walk.Stage.TheVariants as stage
 use Rattle.ct_tree_laws.specs.Trees.{IsTree, IsApart, IsLowFor, Chain, joined}
-use Rattle.ct_tree_laws.specs.Stands.{HasNone, HasOnly, IsAtStage, StandsIn, Stands, Stepped, KeepsKeys, ChangesKeys, is_same_root, added, without}
+use Rattle.ct_tree_laws.specs.Stands.{HasNone, HasOnly, IsAtStage, StandsIn, Stands, Stepped, KeepsKeys, ChangesKeys, is_same_root, added, without, IsPacked}
 use Rattle.ct_tree_laws.proofs.Taking.{owned, is_of_parts, ChangesLatches-own, ChangesLatches-free, has_own-with_hold_new}
 use Rattle.ct_tree_laws.proofs.Pages.{page_at-edited_other, has_fresh_before}
 use Rattle.ct_tree_laws.proofs.Holders.{list_any_gone, list_any_filtered, list_any-with_hold_old}
@@ -24,6 +24,7 @@ use Rattle.ct_tree_laws.proofs.Edits.{LeavesLinks-puts, LeavesLinks-takes, not_t
 use Rattle.ct_tree_laws.proofs.Memory.{Keeps-step}
 use Rattle.ct_tree_laws.proofs.Keys.{KeepsKeys-latches, ChangesKeys-puts, ChangesKeys-takes, has_pair-joined, one_tree, same_root}
 use Rattle.ct_tree_laws.proofs.Walking.{IsSeen, seen_leaf, near_right, near_down, within_last, onward_of}
+use Rattle.ct_tree_laws.proofs.Capacities.{full_enough}
 use Rattle.ct_tree_laws.proofs.Turns.{at_stage, not_founded}
 
 -- the same operation after a step
@@ -38,6 +39,8 @@ stepped_by walk from to w now same stands step place = record {
   stands = λ founded. let here = stands (sym same ∙ founded) in stands_after walk from to w now here (step here) (place here);
   keeps = Keeps-step walk.op w now same (λ founded. step (stands founded));
   founded = same;
+  levels = λ founded. (step (stands founded)).levels;
+  at = λ founded. (step (stands founded)).at;
 }
 
 abbrev pub freed : ℕ → ℕ → World → World
@@ -134,11 +137,12 @@ present_keys walk page node pair w now stands is within has gives founded at key
     other differ = subst (Chain now at) (sym (cond-false (is_same_root at walk.at) (added pair keys) keys differ)) kept
 
 -- a full leaf stays the operation's own
-pub held_full : (walk : Walk) (page : ℕ) (node : NodeValue) (w : World) → Stands walk (stage.Held page) w → page_at w page ≡ Holds node → 2 ≤ length node.entries → Stands walk (stage.Full page) w
-held_full walk page node w stands is enough founded =
+pub held_full : (walk : Walk) (page : ℕ) (node : NodeValue) (w : World) → Stands walk (stage.Held page) w → page_at w page ≡ Holds node → IsPacked node → Stands walk (stage.Full page) w
+held_full walk page node w stands is full founded =
     let here = stands founded in
     let seen = held_seen walk page node w is here in
-    at_stage walk (stage.Held page) (stage.Full page) w here (here.place.0, (node, record { is = is; owned = here.place.2; linked = seen.0.linked; of = seen.0.of; leaf = seen.1; enough = enough }), here.place.3)
+    let enough = full_enough node.key_len (length node.entries) node.leaf seen.0.role.node_is.short_key full in
+    at_stage walk (stage.Held page) (stage.Full page) w here (here.place.0, (node, record { is = is; owned = here.place.2; linked = seen.0.linked; of = seen.0.of; leaf = seen.1; enough = enough; full = full }), here.place.3)
 
 -- the pair is put
 pub puts_pair : (walk : Walk) (page : ℕ) (node new : NodeValue) (pair : Pair) (w : World) → page_at w page ≡ Holds node → node.leaf ≡ true → length pair.key ≡ node.key_len → is_within node.low node.high pair ≡ true → has_pair pair (pairs_in node) ≡ false → IsNode new → new ≡ record node { entries = with_entry (record { pair = pair; child = 0 }) node.entries } → StandsIn walk (stage.Held page) w → PutsPair walk.op page new w

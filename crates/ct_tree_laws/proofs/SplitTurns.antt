@@ -17,6 +17,7 @@ use Rattle.ct_tree_laws.specs.declared.rise.Rise.TheVariants as rise
 use Rattle.ct_tree_laws.specs.Trees.{Chain}
 use Rattle.ct_tree_laws.specs.Stands.{IsFull, IsTidyBut, IsSeparator, StandsIn, Stands, Stepped, KeepsKeys}
 use Rattle.ct_tree_laws.proofs.Pages.{page_within, page_at-edited, page_at-edited_other, page_at-with_fresh, stays_linked, is_fresh_from, has_fresh_before, has_fresh-edited_mine, is_linked-edited, is_fresh-with_fresh, has_fresh-with_fresh, has_fresh_new}
+use Rattle.ct_tree_laws.proofs.Levels.{leaf_level, beside_of, beside_kept}
 use Rattle.ct_tree_laws.proofs.Chains.{one_node}
 use Rattle.ct_tree_laws.proofs.Steps.{IsStep, IsStep-next, IsStep-with_fresh, IsStep-from_links}
 use Rattle.ct_tree_laws.proofs.Edits.{LeavesLinks-right, not_theirs_held}
@@ -42,7 +43,7 @@ allocate_stepped walk page right w now stands new is = subst (Stepped walk (stag
     full : (here : StandsIn walk (stage.Full page) w) → IsFull (with_fresh walk.op w) here.tree walk.op walk.target page here.place.1.0
     full here =
         let is = here.place.1.1 in
-        record { is = page_at-with_fresh walk.op w page ∙ is.is; owned = is.owned; linked = is_fresh-with_fresh walk.op w page (page_within w page here.place.1.0 is.is) ∙ is.linked; of = is.of; leaf = is.leaf; enough = is.enough }
+        record { is = page_at-with_fresh walk.op w page ∙ is.is; owned = is.owned; linked = is_fresh-with_fresh walk.op w page (page_within w page here.place.1.0 is.is) ∙ is.linked; of = is.of; leaf = is.leaf; enough = is.enough; full = is.full }
 
 pub allocate_keys : (walk : Walk) (page : ℕ) (w now : World) → Stands walk (stage.Full page) w → now ≡ with_fresh walk.op w → KeepsKeys w now
 allocate_keys walk page w now stands is = subst (KeepsKeys w) (sym is) (KeepsKeys-with_fresh walk.op w (λ founded. (stands founded).apart))
@@ -88,7 +89,7 @@ write_stepped walk page right node new w now stands is made same = subst (Steppe
     full here =
         let old = full_seen walk (stage.Split page right) page here.place.1.0 node w here here.place.1.1 is in
         let apart : page ≡ right → ⊥ = λ one. false≢true (sym old.linked ∙ subst (λ q. is_fresh q w ≡ true) (sym one) (is_fresh_from walk.op right w here.place.2)) in
-        record { is = page_at-edited_other walk.op right new w page apart ∙ old.is; owned = old.owned; linked = stays_linked walk.op right new w page old.linked; of = old.of; leaf = old.leaf; enough = old.enough }
+        record { is = page_at-edited_other walk.op right new w page apart ∙ old.is; owned = old.owned; linked = stays_linked walk.op right new w page old.linked; of = old.of; leaf = old.leaf; enough = old.enough; full = old.full }
 
     written : (here : StandsIn walk (stage.Split page right) w) → page_at (edited walk.op right new w) right ≡ Holds (upper_half node)
     written here = page_at-edited walk.op right new w (here.apart.within right (is_fresh_from walk.op right w here.place.2)) ∙ ap Holds made
@@ -152,6 +153,7 @@ cut_separator walk page right node low w is middle here =
       record { node = upper_half node; is = page_at-edited_other walk.op page (lower_half right node) w right not_page ∙ facts.1; of = record { file = facts.0.of.file; index = facts.0.of.index }; key_len = role.key_len; kind = refl; from = low-upper node facts.0.enough ∙ ap Some middle.is; linked = is_linked-edited walk.op page (lower_half right node) w here.apart here.place.2 },
       middle.key ∙ role.key_len,
       subst (λ n. below (first_of n None) low ≡ true) role.key_len middle.up,
+      beside_kept w (edited walk.op page (lower_half right node) w) page right (cut_step walk page right node w is here).levels (beside_of w 0 page right (leaf_level w page node facts.0.is facts.0.leaf) (leaf_level w right (upper_half node) facts.1 facts.0.leaf)),
     )
 
 pub cut_stepped : (walk : Walk) (page right : ℕ) (node new : NodeValue) (low : Pair) (w mid now : World) → Stands walk (stage.Cut page right) w → page_at w page ≡ Holds node → IsMiddle node low → new ≡ lower_half right node → mid ≡ edited walk.op page new w → now ≡ freed page walk.op mid → Stepped walk (stage.Post (record { low = low; child = right; left = page }) rise.Root) w now
@@ -166,7 +168,7 @@ cut_stepped walk page right node new low w mid now stands is middle made same gi
     let first = cut_step walk page right node w is here in
     let second = free_step page walk.op cut first.apart in
     let found = cut_separator walk page right node low w is middle here in
-    ((found.0, second.at here.tree found.0 (Some low) right found.1, found.2, found.3), (cut_tidy walk page right node w is here, freed_none page walk.op (edited walk.op page (lower_half right node) w) here.place.3))))
+    ((found.0, second.at here.tree found.0 (Some low) right found.1, found.2, found.3, beside_kept cut (freed page walk.op cut) page right second.levels found.4), (cut_tidy walk page right node w is here, freed_none page walk.op (edited walk.op page (lower_half right node) w) here.place.3))))
 
 pub cut_keys : (walk : Walk) (page right : ℕ) (node new : NodeValue) (w mid now : World) → Stands walk (stage.Cut page right) w → page_at w page ≡ Holds node → new ≡ lower_half right node → mid ≡ edited walk.op page new w → now ≡ freed page walk.op mid → KeepsKeys w now
 cut_keys walk page right node new w mid now stands is made same gives founded at keys chain =

@@ -10,7 +10,9 @@ use Rattle.ct_node.specs.Worlds.{World, Defines, Holds, DefinitionValue, page_at
 use Rattle.ct_tree_laws.specs.Trees.{Tree, IsTree, IsApart, IsLeaf, IsLower, HasPassed}
 use Rattle.ct_tree_laws.proofs.Taking.{ChangesLatches}
 use Rattle.ct_tree_laws.proofs.Pages.{page_at-with_fresh, is_fresh-with_fresh, page_within, IsApart-with_fresh, has_fresh-with_fresh_other}
-use Rattle.ct_tree_laws.proofs.Kept.{KeepsAt, KeepsLinks, IsReached, IsAlike-same, KeepsAt-from_links, IsTree-kept, named_kept}
+use Rattle.ct_tree_laws.specs.Stands.{KeepsLevels, KeepsAt}
+use Rattle.ct_tree_laws.proofs.Levels.{KeepsLevels-same}
+use Rattle.ct_tree_laws.proofs.Kept.{KeepsLinks, IsReached, IsAlike-same, KeepsAt-from_links, IsTree-kept, named_kept}
 use Rattle.ct_tree_laws.proofs.Chains.{one_node}
 use Rattle.ct_tree_laws.specs.Left.{HasPassedLeft}
 use Rattle.ct_tree_laws.proofs.LeftKept.{HasPassedLeft-kept}
@@ -20,6 +22,7 @@ pub record IsStep (op : ℕ) (w now : World) : Type 0 where
   pub founded : now.founded ≡ w.founded
   pub apart : IsApart now
   pub at : KeepsAt w now
+  pub levels : KeepsLevels w now
   pub tree : (at : Root) (t : Tree) (leaves : List ℕ) → IsTree w at t leaves → (after : List ℕ) × IsTree now at t after
   pub latch : (other page : ℕ) → (other ≡ op → ⊥) → has_latch other page now ≡ has_latch other page w
   pub own : (other page : ℕ) → (other ≡ op → ⊥) → has_own other page now ≡ has_own other page w
@@ -35,6 +38,7 @@ IsStep-none op w apart = record {
   founded = refl;
   apart = apart;
   at = λ t leaf low page is. is;
+  levels = λ level page is. is;
   tree = λ at t leaves tree. (leaves, tree);
   latch = λ other page differ. refl;
   own = λ other page differ. refl;
@@ -51,6 +55,7 @@ IsStep-next op w mid now first second = record {
   founded = second.founded ∙ first.founded;
   apart = second.apart;
   at = λ t leaf low page is. second.at t leaf low page (first.at t leaf low page is);
+  levels = λ level page is. second.levels level page (first.levels level page is);
   tree = λ at t leaves tree. let after = first.tree at t leaves tree in second.tree at t after.0 after.1;
   latch = λ other page differ. second.latch other page differ ∙ first.latch other page differ;
   own = λ other page differ. second.own other page differ ∙ first.own other page differ;
@@ -93,6 +98,7 @@ IsStep-from_links op w now leaves = record {
   founded = leaves.founded;
   apart = leaves.apart;
   at = KeepsAt-from_links w now leaves.links;
+  levels = leaves.links.levels;
   tree = λ at t pages tree. (pages, IsTree-kept w now at t pages leaves.links tree);
   latch = leaves.latch;
   own = leaves.own;
@@ -110,6 +116,8 @@ KeepsLinks-same w now same fresh = record {
   onward = λ page node reached. (node, record { is = same page ∙ reached.is; linked = fresh page node reached.is ∙ reached.linked }, IsAlike-same node);
   back = λ page node reached leaf. (node, before page node reached, IsAlike-same node);
   inner = λ page node reached inner at t leaves tree of. let was = before page node reached in tree.roles page node was.is of was.linked;
+  even = λ page node reached inner at t leaves tree of. let was = before page node reached in tree.levels page node was.is of was.linked;
+  levels = KeepsLevels-same w now (λ page node is. same page ∙ is);
   named = named_kept w now (λ page def is. same page ∙ is);
 }
   where

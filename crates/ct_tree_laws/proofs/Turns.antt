@@ -19,7 +19,7 @@ at_stage walk from to w stands place = record { tree = stands.tree; leaves = sta
 
 -- a turn that changes no page
 pub stepped_same : (walk : Walk) (to : Stage) (w now : World) → now ≡ w → Stands walk to w → Stepped walk to w now
-stepped_same walk to w now same stands = subst (Stepped walk to w) (sym same) (record { stands = stands; keeps = λ other stage differ is. is; founded = refl })
+stepped_same walk to w now same stands = subst (Stepped walk to w) (sym same) (record { stands = stands; keeps = λ other stage differ is. is; founded = refl; levels = λ founded level page is. is; at = λ founded t leaf low page is. is })
 
 pub seen_at : (walk : Walk) (page : ℕ) (node : NodeValue) (w : World) → page_at w page ≡ Holds node → (stands : StandsIn walk (stage.Down page) w) → IsSeen w stands.tree walk.target page node
 seen_at walk page node w is stands = seen_near w walk.at stands.tree stands.leaves walk.target page node stands.is stands.place.1 is

@@ -3,7 +3,8 @@ use Rattle.std.proofs.Common.{◌≡◌, ℕ, zero, suc, ◌+◌, ◌-◌, ◌�
 use Rattle.std.specs.Prelude.{◌⊎◌, slice_get, nat_lt}
 use Rattle.std.specs.List.{All, prefix_len}
 use Rattle.std.proofs.lemmas.Bool.{cases_Bool, false≢true, not-true, not-false, or_left, or_right, or_cases, cond-true, cond-false, and_from, false_from_ne_true}
-use Rattle.std.proofs.lemmas.List.Elements.{All-head, All-tail}
+use Rattle.std.proofs.lemmas.List.Elements.{All-head, All-tail, All-get_or}
+use Rattle.std.proofs.lemmas.Option.{get_or_from_slice_get, slice_get_within}
 use Rattle.ct_node.specs.declared.root.Root.{Root}
 use Rattle.ct_node.specs.declared.target.Target.{Target}
 use Rattle.ct_node.specs.declared.target.Target.TheVariants.{First, Last, At, Before}
@@ -12,10 +13,11 @@ use Rattle.ct_node.specs.declared.target.Place.TheVariants.{Right, Down, Here, E
 use Rattle.ct_definitions.specs.Pairs.{Pair}
 use Rattle.ct_node.specs.Nodes.{Entry, NodeValue, pair_in, pairs_in, is_from, is_below, is_within}
 use Rattle.ct_node.specs.Places.{is_past, is_ahead, here, down, next_place}
-use Rattle.ct_node.specs.Worlds.{World, Holds, page_at, is_fresh}
+use Rattle.ct_node.specs.Worlds.{World, Holds, page_at, IsBeside, IsOneAbove, is_fresh}
 use Rattle.ct_node.proofs.Orders.{below, same, same_below, same_back, above, not_above}
 use Rattle.ct_tree_laws.specs.Trees.{Tree, IsOf, IsAt, link_by, IsInner, IsInRole, IsTree, IsApart, IsNear, IsLowFor}
 use Rattle.ct_tree_laws.specs.Stands.{IsNearLeaf}
+use Rattle.ct_tree_laws.proofs.EvenLevels.{right_is_beside, below_is_lower}
 use Rattle.ct_tree_laws.proofs.Chains.{one_node, not_below_itself}
 
 -- a bound that a target is past is at it or below it
@@ -123,16 +125,14 @@ seen_leaf w at t leaves target page node tree near is =
     let same_node : near.1.node ≡ node = one_node w page node near.1.node is near.1.is in
     (seen_near w at t leaves target page node tree (true, near.0, near.1, near.2) is, sym (ap (λ (v : NodeValue). v.leaf) same_node) ∙ near.1.kind)
 
-pub near_right : (w : World) (t : Tree) (target : Target) (page : ℕ) (node : NodeValue) (q : ℕ) → IsSeen w t target page node → next_place node target ≡ Right q → IsNear w t target q
-near_right w t target page node q seen is = ⊎_elim past on (cases_Bool (is_past node.high target))
+-- where a walk goes right, the node ends at its target or below
+goes_right : (w : World) (t : Tree) (target : Target) (page : ℕ) (node : NodeValue) (q : ℕ) → IsSeen w t target page node → next_place node target ≡ Right q → (is_past node.high target ≡ true) × (node.right ≡ q)
+goes_right w t target page node q seen is = ⊎_elim past on (cases_Bool (is_past node.high target))
   where
-    past : is_past node.high target ≡ true → IsNear w t target q
-    past over =
-        let same_page : node.right ≡ q = (let both : Right node.right ≡ Right q = sym (next_past node target over) ∙ is in cc) in
-        let found = right_at_of w t node target seen.role over in
-        subst (IsNear w t target) same_page (node.leaf, Some found.0, found.1, found.2)
+    past : is_past node.high target ≡ true → (is_past node.high target ≡ true) × (node.right ≡ q)
+    past over = (over, (let both : Right node.right ≡ Right q = sym (next_past node target over) ∙ is in cc))
 
-    on : is_past node.high target ≡ false → IsNear w t target q
+    on : is_past node.high target ≡ false → (is_past node.high target ≡ true) × (node.right ≡ q)
     on within = ⊎_elim
         (λ leaf. ⊎_elim
         (λ at_pair. absurd (let both : Here (prefix_len (is_ahead false target) (pairs_in node)) ≡ Right q = sym at_pair ∙ sym (next_leaf node target within leaf) ∙ is in cc))
@@ -143,13 +143,28 @@ near_right w t target page node q seen is = ⊎_elim past on (cases_Bool (is_pas
         absurd (let both : Down found.0.child ≡ Right q = sym (ap down found.1) ∙ sym (next_inner node target within inner) ∙ is in cc))
         (cases_Bool node.leaf)
 
-pub near_down : (w : World) (t : Tree) (target : Target) (page : ℕ) (node : NodeValue) (q : ℕ) → IsSeen w t target page node → next_place node target ≡ Down q → IsNear w t target q × (node.leaf ≡ false)
-near_down w t target page node q seen is = ⊎_elim past on (cases_Bool (is_past node.high target))
+pub near_right : (w : World) (t : Tree) (target : Target) (page : ℕ) (node : NodeValue) (q : ℕ) → IsSeen w t target page node → next_place node target ≡ Right q → IsNear w t target q
+near_right w t target page node q seen is =
+    let goes = goes_right w t target page node q seen is in
+    let found = right_at_of w t node target seen.role goes.0 in
+    subst (IsNear w t target) goes.1 (node.leaf, Some found.0, found.1, found.2)
+
+-- where a walk goes down, an entry of an inner node leads there
+record GoesDown (w : World) (t : Tree) (target : Target) (node : NodeValue) (q : ℕ) : Type 0 where
+  pub inner : node.leaf ≡ false
+  pub place : ℕ
+  pub entry : Entry
+  pub is : slice_get node.entries place ≡ Some entry
+  pub there : entry.child ≡ q
+  pub near : IsNear w t target entry.child
+
+goes_down : (w : World) (t : Tree) (target : Target) (page : ℕ) (node : NodeValue) (q : ℕ) → IsSeen w t target page node → next_place node target ≡ Down q → GoesDown w t target node q
+goes_down w t target page node q seen is = ⊎_elim past on (cases_Bool (is_past node.high target))
   where
-    past : is_past node.high target ≡ true → IsNear w t target q × (node.leaf ≡ false)
+    past : is_past node.high target ≡ true → GoesDown w t target node q
     past over = absurd (let both : Right node.right ≡ Down q = sym (next_past node target over) ∙ is in cc)
 
-    on : is_past node.high target ≡ false → IsNear w t target q × (node.leaf ≡ false)
+    on : is_past node.high target ≡ false → GoesDown w t target node q
     on within = ⊎_elim
         (λ leaf. ⊎_elim
         (λ at_pair. absurd (let both : Here (prefix_len (is_ahead false target) (pairs_in node)) ≡ Down q = sym at_pair ∙ sym (next_leaf node target within leaf) ∙ is in cc))
@@ -159,8 +174,36 @@ near_down w t target page node q seen is = ⊎_elim past on (cases_Bool (is_past
         let found = below_at_of w t node target (seen.role.inner inner) seen.low in
         let both : Down found.0.child ≡ Down q = sym (ap down found.1) ∙ sym (next_inner node target within inner) ∙ is in
         let same_page : found.0.child ≡ q = cc in
-        (subst (IsNear w t target) same_page found.2, inner))
+        record { inner = inner; place = prefix_len (is_ahead true target) (pairs_in node) - 1; entry = found.0; is = found.1; there = same_page; near = found.2 })
         (cases_Bool node.leaf)
+
+pub near_down : (w : World) (t : Tree) (target : Target) (page : ℕ) (node : NodeValue) (q : ℕ) → IsSeen w t target page node → next_place node target ≡ Down q → IsNear w t target q × (node.leaf ≡ false)
+near_down w t target page node q seen is =
+    let goes = goes_down w t target page node q seen is in
+    (subst (IsNear w t target) goes.there goes.near, goes.inner)
+
+-- the page to the right of a node that ends at a target or below is beside it
+pub past_beside : (w : World) (at : Root) (t : Tree) (leaves : List ℕ) (target : Target) (page : ℕ) (node : NodeValue) → IsTree w at t leaves → IsSeen w t target page node → is_past node.high target ≡ true → IsBeside w page node.right
+past_beside w at t leaves target page node tree seen past =
+    let found = right_at_of w t node target seen.role past in
+    right_is_beside w at t leaves page node (record { low = Some found.0; page = node.right }) tree seen.is seen.of seen.linked (ap (link_by node.right) found.3)
+
+-- a walk that goes right stays on its level
+pub right_beside : (w : World) (at : Root) (t : Tree) (leaves : List ℕ) (target : Target) (page : ℕ) (node : NodeValue) (q : ℕ) → IsTree w at t leaves → IsSeen w t target page node → next_place node target ≡ Right q → IsBeside w page q
+right_beside w at t leaves target page node q tree seen is =
+    let goes = goes_right w t target page node q seen is in
+    subst (IsBeside w page) goes.1 (past_beside w at t leaves target page node tree seen goes.0)
+
+-- what holds of all entries holds of one
+All-slice_get : (P : Entry → Type 0) (entries : List Entry) (k : ℕ) (entry : Entry) → All P entries → slice_get entries k ≡ Some entry → P entry
+All-slice_get P entries k entry all is = subst P (get_or_from_slice_get entries k entry entry is) (All-get_or P entries k entry (slice_get_within entries k entry is) all)
+
+-- and one that goes down comes to the next lower level
+pub down_above : (w : World) (at : Root) (t : Tree) (leaves : List ℕ) (target : Target) (page : ℕ) (node : NodeValue) (q : ℕ) → IsTree w at t leaves → IsSeen w t target page node → next_place node target ≡ Down q → IsOneAbove w page q
+down_above w at t leaves target page node q tree seen is =
+    let goes = goes_down w t target page node q seen is in
+    let lower = below_is_lower w at t leaves page node tree seen.is seen.of seen.linked goes.inner in
+    subst (IsOneAbove w page) goes.there (All-slice_get (λ (entry : Entry). IsOneAbove w page entry.child) node.entries goes.place goes.entry lower goes.is)
 
 -- a walk that goes on neither right nor down has come to the target's leaf
 pub record IsLast (node : NodeValue) (target : Target) : Type 0 where

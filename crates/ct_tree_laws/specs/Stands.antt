@@ -1,5 +1,5 @@
 -- What holds between the turns of an operation: what it remembers still stands.
-use Rattle.std.specs.Prelude.{[], ◌≡◌, ℕ, ◌<◌, ◌≤◌, ◌==◌, ◌&&◌, List, length, Bool, true, false, not, Option, Some, None, IsTrue, filter, if◌then◌else◌, ◌∷◌, ◌⊎◌, slice_get}
+use Rattle.std.specs.Prelude.{[], ◌≡◌, ℕ, suc, ◌<◌, ◌≤◌, ◌==◌, ◌&&◌, List, length, Bool, true, false, not, Option, Some, None, IsTrue, filter, if◌then◌else◌, ◌∷◌, ◌⊎◌, ◌+◌, nat_lt, slice_get}
 use Rattle.std.specs.Ordering.{is_lt, is_eq}
 use Rattle.ct_definitions.specs.Pairs.{Pair, pair_cmp, with_pair}
 use Rattle.ct_node.specs.declared.root.Root.{Root}
@@ -9,11 +9,11 @@ use Rattle.ct_node.specs.declared.root.IndexRow.{IndexRow}
 use Rattle.ct_node.specs.Nodes.{Entry, NodeValue, has_pair, is_within, capacity_of}
 use Rattle.ct_node.specs.Halves.{upper_half}
 use Rattle.ct_node.specs.Roles.{first_of}
-use Rattle.ct_node.specs.Worlds.{World, DefinitionValue, Defines, Holds, Blank, page_at, has_latch, has_own, has_fresh, is_fresh, IsTidy}
+use Rattle.ct_node.specs.Worlds.{World, DefinitionValue, Defines, Holds, Blank, page_at, IsLevel, IsBeside, IsOneAbove, has_latch, has_own, has_fresh, is_fresh, IsTidy}
 use Rattle.ct_tree_laws.specs.declared.walk.Walk.{Walk}
 use Rattle.ct_tree_laws.specs.declared.walk.Stage.{Stage}
 use Rattle.ct_tree_laws.specs.declared.walk.Stage.TheVariants.{Start, Down, Leaf, Held, Full, Split, Cut, Share, Shared, Ended, SharedLeft, Left, Post}
-use Rattle.ct_tree_laws.specs.Trees.{Tree, IsOf, IsAt, IsTree, IsApart, IsNear, IsLowFor, HasPassed, Chain, IsInRole}
+use Rattle.ct_tree_laws.specs.Trees.{Tree, IsOf, IsAt, IsTree, IsApart, IsNear, IsLowFor, HasPassed, Chain, IsInRole, IsEven}
 use Rattle.ct_tree_laws.specs.declared.left.Way.{Way}
 use Rattle.ct_tree_laws.specs.declared.left.Way.TheVariants as way
 use Rattle.ct_tree_laws.specs.Left.{HasPassedLeft}
@@ -25,6 +25,10 @@ use Rattle.ct_tree_laws.specs.declared.rise.Rise.TheVariants as rise
 abbrev pub IsNearLeaf : World → Tree → Target → ℕ → Type 0
 IsNearLeaf w t target page = (low : Option Pair) × IsAt w t true low page × IsLowFor target low
 
+-- a node has no room for one more entry
+abbrev pub IsPacked : NodeValue → Type 0
+IsPacked node = nat_lt (length node.entries) (capacity_of node.key_len node.leaf) ≡ false
+
 -- the operation has a full leaf for itself
 pub record IsFull (w : World) (t : Tree) (op : ℕ) (target : Target) (page : ℕ) (node : NodeValue) : Type 0 where
   pub is : page_at w page ≡ Holds node
@@ -33,6 +37,7 @@ pub record IsFull (w : World) (t : Tree) (op : ℕ) (target : Target) (page : �
   pub of : IsOf t node
   pub leaf : node.leaf ≡ true
   pub enough : 2 ≤ length node.entries
+  pub full : IsPacked node
 
 -- all pages that an operation has, and that no link reaches, are blank but for one
 abbrev pub IsTidyBut : ℕ → ℕ → World → Type 0
@@ -57,20 +62,20 @@ HasNone op w = (page : ℕ) → has_latch op page w ≡ false
 abbrev pub HasOnly : ℕ → ℕ → World → Type 0
 HasOnly op page w = (other : ℕ) → has_latch op other w ≡ true → other ≡ page
 
--- a separator is above all zeros and leads to a node of the tree that begins at it
+-- a separator is above all zeros and leads to a node of the tree that begins at it, on the level of the page that it was split off
 abbrev pub IsSeparator : World → Tree → Separator → Type 0
-IsSeparator w t separator = (leaf : Bool) × IsAt w t leaf (Some separator.low) separator.child × (length separator.low.key ≡ t.key_len) × (is_lt (pair_cmp (first_of t.key_len None) separator.low) ≡ true)
+IsSeparator w t separator = (leaf : Bool) × IsAt w t leaf (Some separator.low) separator.child × (length separator.low.key ≡ t.key_len) × (is_lt (pair_cmp (first_of t.key_len None) separator.low) ≡ true) × IsBeside w separator.left separator.child
 
--- an inner node from which a walk to the right reaches the separator
-abbrev pub IsAbove : World → Tree → Separator → ℕ → Type 0
-IsAbove w t separator page = (low : Option Pair) × IsAt w t false low page × IsLowFor (At separator.low) low
+-- an inner node one level above a page, from which a walk to the right reaches the separator
+abbrev pub IsAbove : World → Tree → Separator → ℕ → ℕ → Type 0
+IsAbove w t separator below page = (low : Option Pair) × IsAt w t false low page × IsLowFor (At separator.low) low × IsOneAbove w page below
 
--- the node from which a walk last went down, where it went down
-abbrev pub IsAboveIf : World → Tree → Separator → Option ℕ → Type 0
-IsAboveIf w t separator None = Unit {0}
-IsAboveIf w t separator (Some page) = IsAbove w t separator page
+-- the node from which a walk last went down to the level of its page, where it went down
+abbrev pub IsAboveIf : World → Tree → Separator → ℕ → Option ℕ → Type 0
+IsAboveIf w t separator below None = Unit {0}
+IsAboveIf w t separator below (Some page) = IsAbove w t separator below page
 
--- the operation has an inner node for itself, and the separator lies within its bounds
+-- the operation has an inner node for itself, one level above the separator's page, and the separator lies within its bounds
 pub record IsChosen (w : World) (t : Tree) (op : ℕ) (separator : Separator) (page : ℕ) (node : NodeValue) : Type 0 where
   pub is : page_at w page ≡ Holds node
   pub owned : has_own op page w ≡ true
@@ -78,15 +83,16 @@ pub record IsChosen (w : World) (t : Tree) (op : ℕ) (separator : Separator) (p
   pub of : IsOf t node
   pub inner : node.leaf ≡ false
   pub within : is_within node.low node.high separator.low ≡ true
+  pub level : IsOneAbove w page separator.child
 
--- a node that is to be split, before the separator is posted to one of its halves
+-- a full node that is to be split, before the separator is posted to one of its halves
 abbrev pub IsCrowded : World → Tree → ℕ → Separator → ℕ → NodeValue → Type 0
-IsCrowded w t op separator page node = IsChosen w t op separator page node × (2 ≤ length node.entries)
+IsCrowded w t op separator page node = IsChosen w t op separator page node × (2 ≤ length node.entries) × IsPacked node
 
--- a half of a split has room for the separator, and its own separator is to be posted next
+-- a half of a split has room for the separator and for one more entry, and its own separator is to be posted next
 abbrev pub IsHalf : World → Tree → ℕ → Separator → ℕ → Option Separator → Type 0
 IsHalf w t op separator page None = Unit {0}
-IsHalf w t op separator page (Some next) = IsSeparator w t next × ((node : NodeValue) × IsChosen w t op separator page node × (length node.entries < capacity_of node.key_len false))
+IsHalf w t op separator page (Some next) = IsSeparator w t next × ((node : NodeValue) × IsChosen w t op separator page node × (length node.entries + 1 < capacity_of node.key_len false))
 
 -- an operation has latches on these two pages at most
 abbrev pub HasBoth : ℕ → ℕ → ℕ → World → Type 0
@@ -112,7 +118,7 @@ pub record HasRoot (w : World) (t : Tree) (op : ℕ) (separator : Separator) : T
 abbrev pub node_over : NodeValue → ℕ → NodeValue
 node_over node page = record { file = node.file; index = node.index; leaf = false; key_len = node.key_len; low = None; high = None; right = 0; entries = record { pair = first_of node.key_len None; child = page } ∷ [] }
 
--- a new root that is not named yet: an inner node, open to both sides, whose first page below is the old root
+-- a new root that is not named yet: an inner node, open to both sides, whose first page below is the old root, and all of whose pages below are on the old root's level
 pub record IsCrown (w : World) (t : Tree) (separator : Separator) (node : NodeValue) : Type 0 where
   pub first : Entry
   pub rest : List Entry
@@ -123,13 +129,14 @@ pub record IsCrown (w : World) (t : Tree) (separator : Separator) (node : NodeVa
   pub entries : node.entries ≡ first ∷ rest
   pub old : first.child ≡ separator.left
   pub role : IsInRole w t node
+  pub even : (lower : ℕ) × IsLevel w lower first.child × IsEven w (suc lower) node
 
 -- what an operation knows at each step of the posting of a separator
 abbrev pub IsAtRise : World → Tree → ℕ → Separator → Rise → Type 0
 IsAtRise w t op separator rise.Root = IsTidy op w × HasNone op w
-IsAtRise w t op separator (rise.Down page above) = IsTidy op w × IsNear w t (At separator.low) page × IsAboveIf w t separator above × HasNone op w
-IsAtRise w t op separator (rise.Above page) = IsTidy op w × IsAbove w t separator page × HasNone op w
-IsAtRise w t op separator (rise.Held page next) = IsTidy op w × IsAbove w t separator page × (has_own op page w ≡ true) × HasOnly op page w × IsHalf w t op separator page next
+IsAtRise w t op separator (rise.Down page above) = IsTidy op w × IsNear w t (At separator.low) page × IsAboveIf w t separator page above × HasNone op w
+IsAtRise w t op separator (rise.Above page) = IsTidy op w × IsAbove w t separator separator.child page × HasNone op w
+IsAtRise w t op separator (rise.Held page next) = IsTidy op w × IsAbove w t separator separator.child page × (has_own op page w ≡ true) × HasOnly op page w × IsHalf w t op separator page next
 IsAtRise w t op separator (rise.Full page) = IsTidy op w × ((node : NodeValue) × IsCrowded w t op separator page node) × HasOnly op page w
 IsAtRise w t op separator (rise.Fresh page right) = IsTidy op w × ((node : NodeValue) × IsCrowded w t op separator page node) × (has_fresh op right w ≡ true) × HasOnly op page w
 IsAtRise w t op separator (rise.Split page right) = IsTidy op w × ((node : NodeValue) × IsCrowded w t op separator page node) × (has_fresh op right w ≡ true) × (has_own op right w ≡ true) × HasBoth op page right w
@@ -178,11 +185,21 @@ Stands walk stage w = IsTrue w.founded → StandsIn walk stage w
 abbrev pub Keeps : ℕ → World → World → Type 0
 Keeps op w now = (other : Walk) (stage : Stage) → (other.op ≡ op → ⊥) → Stands other stage w → Stands other stage now
 
--- a turn of an operation: what it remembers stands afterwards, and so does what others do
+-- each page stays on its level
+abbrev pub KeepsLevels : World → World → Type 0
+KeepsLevels w now = (level page : ℕ) → IsLevel w level page → IsLevel now level page
+
+-- each node of a tree that a link reaches keeps its place
+abbrev pub KeepsAt : World → World → Type 0
+KeepsAt w now = (t : Tree) (leaf : Bool) (low : Option Pair) (page : ℕ) → IsAt w t leaf low page → IsAt now t leaf low page
+
+-- a turn of an operation: what it remembers stands afterwards, and so does what others do; pages stay on their levels, and nodes that links reach in their places
 pub record Stepped (walk : Walk) (to : Stage) (w now : World) : Type 0 where
   pub stands : Stands walk to now
   pub keeps : Keeps walk.op w now
   pub founded : now.founded ≡ w.founded
+  pub levels : IsTrue w.founded → KeepsLevels w now
+  pub at : IsTrue w.founded → KeepsAt w now
 
 -- whether two indexes are the same
 abbrev pub is_same_root : Root → Root → Bool

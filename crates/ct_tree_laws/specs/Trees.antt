@@ -1,5 +1,5 @@
 -- An index as a tree with right links: which pages its nodes stand in, and how they hang together.
-use Rattle.std.specs.Prelude.{◌≡◌, ℕ, ◌<◌, ◌≤◌, List, [], ◌∷◌, length, flat_map, slice_get, Bool, true, false, Option, Some, None, ◌⊎◌}
+use Rattle.std.specs.Prelude.{◌≡◌, ℕ, suc, ◌<◌, ◌≤◌, List, [], ◌∷◌, length, flat_map, slice_get, Bool, true, false, Option, Some, None, ◌⊎◌}
 use Rattle.std.specs.List.{All, AllPass}
 use Rattle.std.specs.Ordering.{is_lt, is_eq}
 use Rattle.ct_definitions.specs.Pairs.{Pair, pair_cmp}
@@ -9,7 +9,7 @@ use Rattle.ct_node.specs.declared.root.IndexRow.{IndexRow}
 use Rattle.ct_node.specs.Nodes.{Entry, NodeValue, IsNode, pairs_in}
 use Rattle.ct_node.specs.Places.{is_ahead, is_past}
 use Rattle.ct_node.specs.Roles.{first_of}
-use Rattle.ct_node.specs.Worlds.{World, PageValue, DefinitionValue, Blank, Defines, Holds, page_at, has_latch, has_own, has_fresh, is_fresh}
+use Rattle.ct_node.specs.Worlds.{World, PageValue, DefinitionValue, Blank, Defines, Holds, page_at, IsLevel, has_latch, has_own, has_fresh, is_fresh}
 
 -- a tree: the file and the index that each of its nodes bears, the length of its keys, and the page of its first leaf
 pub record Tree : Type 0 where
@@ -70,6 +70,15 @@ pub record IsInRole (w : World) (t : Tree) (node : NodeValue) : Type 0 where
   pub right : (link : Link) → link_of node ≡ Some link → IsAt w t node.leaf link.low link.page
   pub inner : node.leaf ≡ false → IsInner w t node
 
+-- all pages below an inner node of a level stand on the next lower one
+abbrev pub LeadsLower : World → ℕ → List Entry → Type 0
+LeadsLower w level entries = (lower : ℕ) × (level ≡ suc lower) × All (λ entry. IsLevel w lower entry.child) entries
+
+-- a node of a level links to the right to a page of the same level, and an inner one down to pages of the next lower one
+pub record IsEven (w : World) (level : ℕ) (node : NodeValue) : Type 0 where
+  pub right : (link : Link) → link_of node ≡ Some link → IsLevel w level link.page
+  pub below : node.leaf ≡ false → LeadsLower w level node.entries
+
 -- the link of the node in a page
 abbrev pub link_in : PageValue → Option Link
 link_in Blank = None
@@ -95,7 +104,7 @@ abbrev pub IsAmong : ℕ → List ℕ → Type 0
 IsAmong page [] = ⊥
 IsAmong page (other ∷ pages) = (page ≡ other) ⊎ IsAmong page pages
 
--- an index is a tree: its definition names it, its leaves hang together from the first one on, and all that links reach is in its role
+-- an index is a tree: its definition names it, its leaves hang together from the first one on, all that links reach is in its role, and its levels are even
 pub record IsTree (w : World) (at : Root) (t : Tree) (leaves : List ℕ) : Type 0 where
   pub def : DefinitionValue
   pub row : IndexRow
@@ -109,6 +118,7 @@ pub record IsTree (w : World) (at : Root) (t : Tree) (leaves : List ℕ) : Type 
   pub linked : Linked w t (Some (record { low = None; page = t.first })) leaves
   pub all : (page : ℕ) (node : NodeValue) → page_at w page ≡ Holds node → IsOf t node → node.leaf ≡ true → is_fresh page w ≡ false → IsAmong page leaves
   pub roles : (page : ℕ) (node : NodeValue) → page_at w page ≡ Holds node → IsOf t node → is_fresh page w ≡ false → IsInRole w t node
+  pub levels : (page : ℕ) (node : NodeValue) → page_at w page ≡ Holds node → IsOf t node → is_fresh page w ≡ false → (level : ℕ) × IsLevel w level page × IsEven w level node
 
 -- the pairs of the leaves, joined
 abbrev pub joined : World → List ℕ → List Pair

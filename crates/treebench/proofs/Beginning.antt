@@ -6,6 +6,7 @@ use Rattle.ct_tree_laws.specs.declared.walk.Walk.{Walk}
 use Rattle.ct_tree_laws.specs.declared.walk.Stage.{Stage}
 use Rattle.ct_tree_laws.specs.declared.walk.Stage.TheVariants.{Start}
 use Rattle.ct_tree_laws.specs.Stands.{Stands, Stepped}
+use Rattle.ct_tree.specs.Counted.{IsCounted}
 use Rattle.treebench.specs.Begins.{IsOfLength, MayBegin}
 
 -- fewer may begin from the next number on
@@ -20,3 +21,7 @@ MayBegin-kept op walk to w now is stepped may other later at key =
 -- an operation of this number that begins
 pub begins : (op : ℕ) (walk : Walk) (w : World) → MayBegin op w → walk.op ≡ op → walk.at ≡ record { page = 0; index = 0 } → IsOfLength 8 walk.target → Stands walk Start w
 begins op walk w may is at key = may walk (omega (arith, is)) at key
+
+-- one that begins has made no moves
+pub counted_start : (at : Stage) (moves : ℕ) (w : World) → at ≡ Start → moves ≡ 0 → IsCounted at moves w
+counted_start at moves w starts still = subst (λ stage. IsCounted stage moves w) (sym starts) (λ founded. still)

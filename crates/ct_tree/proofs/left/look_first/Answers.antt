@@ -1,4 +1,4 @@
-use Rattle.std.proofs.Common.{◌≡◌, ◌-◌, suc, length, sym, refl, arith, ◌∙◌}
+use Rattle.std.proofs.Common.{◌≡◌, ◌-◌, suc, length, sym, refl, arith, ◌∙◌, inl, inr}
 use Rattle.std.proofs.lemmas.List.{length-map}
 use Rattle.ct_node.specs.Nodes.{pairs_in, pair_in}
 use Rattle.ct_node.specs.Places.{is_ahead}
@@ -10,6 +10,7 @@ use Rattle.ct_tree_laws.proofs.LeftTurns.{left_first_past, left_first_on}
 use Rattle.ct_tree_laws.proofs.LeftFinds.{left_first_some, left_first_none}
 use Rattle.ct_tree_laws.proofs.Turns.{keys_same, stays}
 use Rattle.ct_tree.proofs.Done.{when_done, caused_done}
+use Rattle.ct_tree.proofs.OneTurn.{waits_first, visits_free, visits}
 use Rattle.ct_tree.proofs.left.look_first.Goals as goal
 
 pub returns-in-Right-clause-stepped : goal.returns-in-Right-clause-stepped
@@ -40,6 +41,7 @@ returns-then-ahead-gt0 g c =
     let ahead : c.count_ahead-ahead.result ≡ suc (c.count_ahead-ahead.result - 1) = omega arith in
     record {
       stepped = stays c.args.walk.now (stage.SharedLeft c.args.page) w now c.look-seen.ensures.world c.requires;
+      rule = inl refl;
       keys = keys_same w now c.look-seen.ensures.world;
       found = λ founded keys chain. sym (left_first_some c.args.walk.now c.args.or_at c.args.page node (c.count_ahead-ahead.result - 1) c.pair-pair.result w is (λ q one. c.in_default.not-Right q (c.next_place.ensures ∙ one)) (sym c.count_ahead-ahead.ensures ∙ ahead) c.pair-pair.ensures (c.requires founded) keys chain);
       searching = tt;
@@ -58,6 +60,7 @@ returns-in-Some g c =
     let none : c.count_ahead-ahead.result ≡ 0 = omega arith in
     record {
       stepped = left_first_on c.args.walk.now c.args.or_at c.args.page node c.in-Some.low w now c.requires is c.look-seen.ensures.world (λ q one. c.in_default.not-Right q (c.next_place.ensures ∙ one)) (sym c.count_ahead-ahead.ensures ∙ none) (sym c.low.ensures ∙ c.in-Some.is);
+      rule = inr (visits w now c.look-seen.ensures.world, inr (c.in-Some.low, c.args.or_at, refl));
       keys = keys_same w now c.look-seen.ensures.world;
       found = tt;
       searching = refl;
@@ -76,6 +79,7 @@ returns-in-None g c =
     let none : c.count_ahead-ahead.result ≡ 0 = omega arith in
     record {
       stepped = stays c.args.walk.now (stage.SharedLeft c.args.page) w now c.look-seen.ensures.world c.requires;
+      rule = inl refl;
       keys = keys_same w now c.look-seen.ensures.world;
       found = λ founded keys chain. sym (left_first_none c.args.walk.now c.args.or_at c.args.page node w is (λ q one. c.in_default.not-Right q (c.next_place.ensures ∙ one)) (sym c.count_ahead-ahead.ensures ∙ none) (sym c.low.ensures ∙ c.in-None.is) (c.requires founded) keys chain);
       searching = tt;
@@ -83,3 +87,9 @@ returns-in-None g c =
       busy = tt;
       cause = cause;
     }
+
+pub returns-then-not-is_done-clause-rule : goal.returns-then-not-is_done-clause-rule
+returns-then-not-is_done-clause-rule g c = waits_first c.look-seen.result c.args.walk.now (g.N.Nodes.world c.args.nodes.now) (g.N.Nodes.world c.look-seen.new.self) (g.N.Nodes.left c.args.nodes.now) (g.N.Nodes.left c.look-seen.new.self) (stage.SharedLeft c.args.page) (cc) c.look-seen.ensures.world c.look-seen.ensures.left
+
+pub returns-in-Right-clause-rule : goal.returns-in-Right-clause-rule
+returns-in-Right-clause-rule g c = inr ((visits_free _ (g.N.Nodes.world c.args.nodes.now) (g.N.Nodes.world c.look-seen.new.self) (g.N.Nodes.world c.free_all.new.self) c.look-seen.ensures.world c.free_all.ensures.world), inl (c.in-Right.right, (c.look-seen.new.into, when_done c.look-seen.result (λ _. page_at (g.N.Nodes.world c.args.nodes.now) c.args.page ≡ Holds c.look-seen.new.into) (cc) c.look-seen.ensures.seen, sym c.in-Right.ensures), refl))

@@ -1,12 +1,13 @@
-use Rattle.std.proofs.Common.{false}
+use Rattle.std.proofs.Common.{false, refl, inr, ap}
 use Rattle.std.specs.Prelude.{find}
 use Rattle.ct_latch.specs.Latches.{bars, with_share}
-use Rattle.ct_node.specs.Worlds.{with_holds}
+use Rattle.ct_node.specs.Worlds.{with_holds, World}
 use Rattle.ct_tree_laws.specs.declared.walk.Stage.TheVariants as stage
 use Rattle.ct_tree_laws.specs.declared.left.Way.TheVariants as way
 use Rattle.ct_tree_laws.proofs.SearchTurns.{share_keys}
 use Rattle.ct_tree_laws.proofs.LeftTurns.{left_share_next}
-use Rattle.ct_tree.proofs.Done.{after_done, free_when_done}
+use Rattle.ct_tree.proofs.Done.{after_done, free_when_done, after_other}
+use Rattle.ct_tree.proofs.OneTurn.{waits_first}
 use Rattle.ct_tree.proofs.left.share_left.Goals as goal
 
 pub returns-clause-stepped : goal.returns-clause-stepped
@@ -20,3 +21,9 @@ returns-clause-keys g c =
     let w = g.N.Nodes.world c.args.nodes.now in
     share_keys c.args.walk.now (stage.Left c.args.low c.args.or_at (way.Leaf c.args.page)) c.args.page w (g.N.Nodes.world c.share-shared.new.self) c.requires (free_when_done c.share-shared.result (find (bars c.args.page c.args.walk.now.op false) w.holds) (cc) c.share-shared.ensures.busy)
     (after_done c.share-shared.result (λ _. with_holds (with_share c.args.page c.args.walk.now.op w.holds) w) w (g.N.Nodes.world c.share-shared.new.self) (cc) c.share-shared.ensures.world)
+
+pub returns-then-not-is_done-clause-rule : goal.returns-then-not-is_done-clause-rule
+returns-then-not-is_done-clause-rule g c = waits_first c.share-shared.result c.args.walk.now (g.N.Nodes.world c.args.nodes.now) (g.N.Nodes.world c.share-shared.new.self) (g.N.Nodes.left c.args.nodes.now) (g.N.Nodes.left c.share-shared.new.self) (stage.Left c.args.low c.args.or_at (way.Leaf c.args.page)) (cc) (after_other c.share-shared.result (λ _. with_holds (with_share c.args.page c.args.walk.now.op (g.N.Nodes.world c.args.nodes.now).holds) (g.N.Nodes.world c.args.nodes.now)) (g.N.Nodes.world c.args.nodes.now) (g.N.Nodes.world c.share-shared.new.self) (cc) c.share-shared.ensures.world) c.share-shared.ensures.left
+
+pub returns-clause-rule : goal.returns-clause-rule
+returns-clause-rule g c = inr (ap (λ (v : World). v.pages) (after_done c.share-shared.result (λ _. with_holds (with_share c.args.page c.args.walk.now.op (g.N.Nodes.world c.args.nodes.now).holds) (g.N.Nodes.world c.args.nodes.now)) (g.N.Nodes.world c.args.nodes.now) (g.N.Nodes.world c.share-shared.new.self) (cc) c.share-shared.ensures.world), refl)

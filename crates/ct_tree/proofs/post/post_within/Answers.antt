@@ -1,13 +1,14 @@
-use Rattle.std.proofs.Common.{◌≡◌, nat_lt, length, refl, sym, ap, ◌∙◌, subst, true, false}
-use Rattle.ct_node.specs.Nodes.{capacity_of}
-use Rattle.ct_node.specs.Worlds.{edited, Posts}
+use Rattle.std.proofs.Common.{◌≡◌, nat_lt, length, refl, sym, ap, ◌∙◌, subst, false, inl, inr}
+use Rattle.ct_node.specs.Nodes.{capacity_of, NodeValue}
+use Rattle.ct_node.specs.Worlds.{edited, Posts, World}
 use Rattle.ct_tree_laws.specs.declared.walk.Stage.TheVariants as stage
 use Rattle.ct_tree_laws.specs.declared.rise.Rise.TheVariants as rise
-use Rattle.ct_tree_laws.specs.Stands.{Stepped, after_post}
-use Rattle.ct_tree_laws.proofs.Turns.{not_founded}
-use Rattle.ct_tree_laws.proofs.PostingTurns.{held_for, begins_inner, held_done, held_full, posts_child, posted_tidy, posted_stepped, posted_keys}
+use Rattle.ct_tree_laws.specs.Stands.{Stepped}
+use Rattle.ct_tree_laws.proofs.Turns.{not_founded, stays}
+use Rattle.ct_tree_laws.proofs.PostingTurns.{held_for, begins_inner, held_done, held_full, posts_child, posted_tidy, posted_stepped, posted_keys, half_roomy}
 use Rattle.ct_tree_laws.proofs.PostingCrowns.{named_freed_keys}
-use Rattle.ct_tree.proofs.Done.{after_done, is_above_for_from}
+use Rattle.ct_tree.proofs.Done.{after_done, is_above_for_from, after_other}
+use Rattle.ct_tree.proofs.OneTurn.{waits_first, posts_none, posts_one, room_some, edited_pages, inner_of, posted_not_roomy}
 use Rattle.ct_tree.proofs.post.post_within.Goals as goal
 
 pub bad-fault-requires : goal.bad-fault-requires
@@ -68,3 +69,21 @@ returns-clause-keys g c =
     (λ here. posts_child c.args.walk.now c.args.separator c.args.page c.args.next c.args.node.now c.post.new.self w c.requires.seen c.requires.within (cc) c.count-count.ensures.node c.post.ensures.node here)
     (after_done c.edit-edited.result (λ _. edited c.args.walk.now.op c.args.page c.post.new.self w) w mid (cc) c.edit-edited.ensures.world)
     c.free-2.ensures.world
+
+pub returns-then-not-is_done-clause-rule : goal.returns-then-not-is_done-clause-rule
+returns-then-not-is_done-clause-rule g c = waits_first c.edit-edited.result c.args.walk.now (g.N.Nodes.world c.args.nodes.now) (g.N.Nodes.world c.edit-edited.new.self) (g.N.Nodes.left c.args.nodes.now) (g.N.Nodes.left c.edit-edited.new.self) (stage.Post c.args.separator (rise.Held c.args.page c.args.next)) (cc) (after_other c.edit-edited.result (λ _. edited c.args.walk.now.op c.args.page c.post.new.self (g.N.Nodes.world c.args.nodes.now)) (g.N.Nodes.world c.args.nodes.now) (g.N.Nodes.world c.edit-edited.new.self) (cc) c.edit-edited.ensures.world) c.edit-edited.ensures.left
+
+pub returns-then-has-clause-rule : goal.returns-then-has-clause-rule
+returns-then-has-clause-rule g c = inr (inl (posts_none c.args.page c.args.next (g.N.Nodes.world c.args.nodes.now) (g.N.Nodes.world c.free.new.self) (ap (λ (v : World). v.pages) c.free.ensures.world), c.after_post.ensures))
+
+pub returns-then-not-fits-clause-rule : goal.returns-then-not-fits-clause-rule
+returns-then-not-fits-clause-rule g c = inr (inr (refl, inr refl))
+
+pub returns-clause-rule : goal.returns-clause-rule
+returns-clause-rule g c = inr (inl (posts_one c.args.page c.args.next c.post.new.self (g.N.Nodes.world c.args.nodes.now) (g.N.Nodes.world c.free-2.new.self) (cc) (ap (λ (v : NodeValue). v.leaf) c.post.ensures.node ∙ inner_of c.args.node.now c.args.separator.low (cc)) (edited_pages c.edit-edited.result c.args.walk.now.op c.args.page c.post.new.self _ (g.N.Nodes.world c.args.nodes.now) (g.N.Nodes.world c.edit-edited.new.self) (g.N.Nodes.world c.free-2.new.self) (cc) c.edit-edited.ensures.world c.free-2.ensures.world), c.after_post-2.ensures))
+
+pub bad-fault-requires-then-not-leaves_room : goal.bad-fault-requires-then-not-leaves_room
+bad-fault-requires-then-not-leaves_room g c = half_roomy c.args.walk.now c.args.separator c.args.page c.args.next c.args.node.now (g.N.Nodes.world c.args.nodes.now) (g.N.Nodes.world c.args.nodes.now) c.requires.stands c.requires.seen refl (room_some c.args.next c.post.new.self (cc)).0 (posted_not_roomy c.args.node.now c.post.new.self _ c.post.ensures.node (room_some c.args.next c.post.new.self (cc)).1)
+
+pub returns-then-not-is_done-clause-stepped : goal.returns-then-not-is_done-clause-stepped
+returns-then-not-is_done-clause-stepped g c = stays c.args.walk.now (stage.Post c.args.separator (rise.Held c.args.page c.args.next)) (g.N.Nodes.world c.args.nodes.now) (g.N.Nodes.world c.edit-edited.new.self) (after_other c.edit-edited.result (λ _. edited c.args.walk.now.op c.args.page c.post.new.self (g.N.Nodes.world c.args.nodes.now)) (g.N.Nodes.world c.args.nodes.now) (g.N.Nodes.world c.edit-edited.new.self) (cc) c.edit-edited.ensures.world) c.requires.stands

@@ -1,4 +1,6 @@
+use Rattle.std.proofs.Common.{refl, inl, inr}
 use Rattle.ct_tree_laws.proofs.PostingTurns.{root_again, root_down}
+use Rattle.ct_tree.proofs.OneTurn.{visits}
 use Rattle.ct_tree.proofs.post.read_root.Goals as goal
 
 pub returns-then-page-separator-clause-stepped : goal.returns-then-page-separator-clause-stepped
@@ -6,3 +8,12 @@ returns-then-page-separator-clause-stepped g c = root_again c.args.walk.now c.ar
 
 pub returns-in-Done-clause-stepped : goal.returns-in-Done-clause-stepped
 returns-in-Done-clause-stepped g c = root_down c.args.walk.now c.args.separator c.in-Done.page (g.N.Nodes.world c.args.nodes.now) (g.N.Nodes.world c.root.new.self) c.requires c.in-Done.ensures.world c.in-Done.ensures.seen
+
+pub returns-then-page-separator-clause-rule : goal.returns-then-page-separator-clause-rule
+returns-then-page-separator-clause-rule g c = inr (visits (g.N.Nodes.world c.args.nodes.now) (g.N.Nodes.world c.root.new.self) c.in-Done.ensures.world, (c.in-Done.page, c.in-Done.ensures.seen, inl refl))
+
+pub returns-in-Done-clause-rule : goal.returns-in-Done-clause-rule
+returns-in-Done-clause-rule g c = inr (visits (g.N.Nodes.world c.args.nodes.now) (g.N.Nodes.world c.root.new.self) c.in-Done.ensures.world, (c.in-Done.page, c.in-Done.ensures.seen, inr refl))
+
+pub returns-in-More-clause-rule : goal.returns-in-More-clause-rule
+returns-in-More-clause-rule g c = inl (record { same = refl; world = c.in-More.ensures.world; less = c.in-More.ensures.left })

@@ -1,12 +1,14 @@
-use Rattle.std.proofs.Common.{◌≡◌, ◌+◌, true, false, cond, inl, sym, refl, ap, ◌∙◌, subst}
+use Rattle.std.proofs.Common.{◌≡◌, true, false, cond, inl, sym, refl, ◌∙◌, subst, inr}
 use Rattle.std.proofs.lemmas.Bool.{cond-true, cond-false}
 use Rattle.ct_node.specs.Nodes.{pairs_in, has_pair}
 use Rattle.ct_node.specs.Worlds.{edited, Puts}
 use Rattle.ct_tree_laws.specs.Stands.{ChangesKeys}
 use Rattle.ct_tree.specs.Answers.{put_at, has_at}
-use Rattle.ct_tree_laws.proofs.Turns.{not_founded}
-use Rattle.ct_tree_laws.proofs.PutTurns.{held_is_for, held_ended, present_keys, has_keys, puts_pair, edited_tidy, put_stepped, put_keys}
-use Rattle.ct_tree.proofs.Done.{after_done, is_for_from, is_for_parts, bears_done, bears_other, bears_put_going}
+use Rattle.ct_tree_laws.proofs.Turns.{not_founded, stays, stepped_same}
+use Rattle.ct_tree_laws.proofs.PutTurns.{held_is_for, held_ended, present_keys, has_keys, puts_pair, edited_tidy, put_stepped, put_keys, held_full}
+use Rattle.ct_tree.proofs.Done.{after_done, is_for_from, is_for_parts, bears_done, bears_other, bears_put_going, after_other}
+use Rattle.ct_tree.proofs.OneTurn.{waits_first}
+use Rattle.ct_tree_laws.specs.declared.walk.Stage.TheVariants as stage
 use Rattle.ct_tree.proofs.put.put_here.Goals as goal
 
 pub bad-requires : goal.bad-requires
@@ -83,3 +85,15 @@ returns-clause-bears g c founded keys chain =
     let none : has_pair c.in-At.pair keys ≡ false = sym (has_keys c.args.walk.now c.args.page c.args.node.now c.in-At.pair w c.requires.stands c.requires.seen facts.2 founded keys chain) ∙ absent in
     let bears = bears_done c.edit-edited.result c.args.mark before (g.N.Nodes.marked c.edit-edited.new.self) (cc) c.edit-edited.ensures.marked in
     subst (λ target. g.N.Nodes.marked c.free-2.new.self ≡ cond (has_at target keys) before c.args.mark) (sym c.in-At.is) (c.free-2.ensures.marked ∙ bears ∙ sym (cond-false (has_pair c.in-At.pair keys) before c.args.mark none))
+
+pub returns-then-not-fits-clause-rule : goal.returns-then-not-fits-clause-rule
+returns-then-not-fits-clause-rule g c = inr (refl, inr refl)
+
+pub returns-then-not-is_done-clause-rule : goal.returns-then-not-is_done-clause-rule
+returns-then-not-is_done-clause-rule g c = waits_first c.edit-edited.result c.args.walk.now (g.N.Nodes.world c.args.nodes.now) (g.N.Nodes.world c.edit-edited.new.self) (g.N.Nodes.left c.args.nodes.now) (g.N.Nodes.left c.edit-edited.new.self) (stage.Held c.args.page) (cc) (after_other c.edit-edited.result (λ _. edited c.args.walk.now.op c.args.page c.put.new.self (g.N.Nodes.world c.args.nodes.now)) (g.N.Nodes.world c.args.nodes.now) (g.N.Nodes.world c.edit-edited.new.self) (cc) c.edit-edited.ensures.world) c.edit-edited.ensures.left
+
+pub returns-then-not-is_done-clause-stepped : goal.returns-then-not-is_done-clause-stepped
+returns-then-not-is_done-clause-stepped g c = stays c.args.walk.now (stage.Held c.args.page) (g.N.Nodes.world c.args.nodes.now) (g.N.Nodes.world c.edit-edited.new.self) (after_other c.edit-edited.result (λ _. edited c.args.walk.now.op c.args.page c.put.new.self (g.N.Nodes.world c.args.nodes.now)) (g.N.Nodes.world c.args.nodes.now) (g.N.Nodes.world c.edit-edited.new.self) (cc) c.edit-edited.ensures.world) c.requires.stands
+
+pub returns-then-not-fits-clause-stepped : goal.returns-then-not-fits-clause-stepped
+returns-then-not-fits-clause-stepped g c = stepped_same c.args.walk.now (stage.Full c.args.page) (g.N.Nodes.world c.args.nodes.now) (g.N.Nodes.world c.args.nodes.now) refl (held_full c.args.walk.now c.args.page c.args.node.now (g.N.Nodes.world c.args.nodes.now) c.requires.stands c.requires.seen (cc))

@@ -1,4 +1,4 @@
-use Rattle.std.proofs.Common.{◌≡◌, ◌≤◌, length, sym, refl, arith, ◌∙◌, ap, subst}
+use Rattle.std.proofs.Common.{◌≡◌, ◌≤◌, length, sym, refl, arith, ◌∙◌, ap, subst, inl, inr}
 use Rattle.std.specs.Prelude.{slice_get}
 use Rattle.std.specs.List.{AllPass}
 use Rattle.std.proofs.lemmas.List.{length-map}
@@ -11,6 +11,7 @@ use Rattle.ct_tree_laws.proofs.Finds.{search_some, search_none, all_from_prefix}
 use Rattle.ct_tree_laws.proofs.Turns.{keys_same, stays}
 use Rattle.ct_node.specs.declared.target.Place.TheVariants.{Right, Here, End}
 use Rattle.ct_tree.proofs.Done.{when_done, caused_done}
+use Rattle.ct_tree.proofs.OneTurn.{waits_first, visits_free, visits}
 use Rattle.ct_tree.proofs.search.look_shared.Goals as goal
 
 pub free_all-requires : goal.free_all-requires
@@ -35,6 +36,7 @@ returns-then-place-count g c =
     let cause = caused_done c.look-seen.result (g.N.Nodes.faults c.args.nodes.now) (g.N.Nodes.faults c.look-seen.new.self) (g.N.Nodes.halted c.args.nodes.now) (g.N.Nodes.halted c.look-seen.new.self) (cc) c.look-seen.ensures.cause in
     record {
       stepped = stays c.args.walk.now (stage.Shared c.args.page c.args.above) w now c.look-seen.ensures.world c.requires;
+      rule = inl refl;
       keys = keys_same w now c.look-seen.ensures.world;
       found = λ founded keys chain. sym (search_some c.args.walk.now c.args.above c.args.page node c.pair-pair.result w is (ap (slice_get (pairs_in node)) (sym c.count_ahead-place.ensures) ∙ c.pair-pair.ensures) (c.requires founded) keys chain);
       searching = refl;
@@ -55,6 +57,7 @@ returns-in-Right-next_place g c =
     let clear : AllPass (is_ahead c.args.above c.args.walk.now.target) (pairs_in node) = all_from_prefix (is_ahead c.args.above c.args.walk.now.target) (pairs_in node) (subst (λ n. length (pairs_in node) ≤ n) c.count_ahead-place.ensures long) in
     record {
       stepped = shared_right c.args.walk.now c.args.above c.args.page node c.in-Right-next_place.right w now c.requires is c.look-seen.ensures.world clear c.in-Right-next_place.ensures;
+      rule = inr (visits w now c.look-seen.ensures.world, (c.in-Right-next_place.right, inr ((node, is, sym c.in-Right-next_place.ensures), refl)));
       keys = keys_same w now c.look-seen.ensures.world;
       found = tt;
       searching = refl;
@@ -75,6 +78,7 @@ returns-in-Here g c =
     let clear : AllPass (is_ahead c.args.above c.args.walk.now.target) (pairs_in node) = all_from_prefix (is_ahead c.args.above c.args.walk.now.target) (pairs_in node) (subst (λ n. length (pairs_in node) ≤ n) c.count_ahead-place.ensures long) in
     record {
       stepped = stays c.args.walk.now (stage.Shared c.args.page c.args.above) w now c.look-seen.ensures.world c.requires;
+      rule = inl refl;
       keys = keys_same w now c.look-seen.ensures.world;
       found = λ founded keys chain. sym (search_none c.args.walk.now c.args.above c.args.page node w is clear (λ q one. let here : Here c.in-Here.field-0 ≡ Right q = c.in-Here.ensures ∙ one in absurd (cc)) (c.requires founded) keys chain);
       searching = refl;
@@ -95,6 +99,7 @@ returns-in-End g c =
     let clear : AllPass (is_ahead c.args.above c.args.walk.now.target) (pairs_in node) = all_from_prefix (is_ahead c.args.above c.args.walk.now.target) (pairs_in node) (subst (λ n. length (pairs_in node) ≤ n) c.count_ahead-place.ensures long) in
     record {
       stepped = stays c.args.walk.now (stage.Shared c.args.page c.args.above) w now c.look-seen.ensures.world c.requires;
+      rule = inl refl;
       keys = keys_same w now c.look-seen.ensures.world;
       found = λ founded keys chain. sym (search_none c.args.walk.now c.args.above c.args.page node w is clear (λ q one. let here : End ≡ Right q = c.in-End.ensures ∙ one in absurd (cc)) (c.requires founded) keys chain);
       searching = refl;
@@ -109,3 +114,9 @@ bad-requires g c =
     let node = c.look-seen.new.into in
     shared_not_down c.args.walk.now c.args.above c.args.page node c.in-Down.field-0 w (g.N.Nodes.world c.look-seen.new.self) c.requires
     (when_done c.look-seen.result (λ _. page_at w c.args.page ≡ Holds node) (cc) c.look-seen.ensures.seen) c.look-seen.ensures.world c.in-Down.ensures
+
+pub returns-then-not-is_done-clause-rule : goal.returns-then-not-is_done-clause-rule
+returns-then-not-is_done-clause-rule g c = waits_first c.look-seen.result c.args.walk.now (g.N.Nodes.world c.args.nodes.now) (g.N.Nodes.world c.look-seen.new.self) (g.N.Nodes.left c.args.nodes.now) (g.N.Nodes.left c.look-seen.new.self) (stage.Shared c.args.page c.args.above) (cc) c.look-seen.ensures.world c.look-seen.ensures.left
+
+pub returns-in-Right-clause-rule : goal.returns-in-Right-clause-rule
+returns-in-Right-clause-rule g c = inr ((visits_free _ (g.N.Nodes.world c.args.nodes.now) (g.N.Nodes.world c.look-seen.new.self) (g.N.Nodes.world c.free_all.new.self) c.look-seen.ensures.world c.free_all.ensures.world), (c.in-Right.right, inl ((c.look-seen.new.into, when_done c.look-seen.result (λ _. page_at (g.N.Nodes.world c.args.nodes.now) c.args.page ≡ Holds c.look-seen.new.into) (cc) c.look-seen.ensures.seen, sym c.in-Right.ensures), refl)))

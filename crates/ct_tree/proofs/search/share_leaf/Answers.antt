@@ -1,5 +1,7 @@
+use Rattle.std.proofs.Common.{refl, inl, inr, ap}
 use Rattle.ct_tree_laws.specs.declared.walk.Stage.TheVariants as stage
 use Rattle.ct_tree_laws.proofs.SearchTurns.{share_first, share_keys}
+use Rattle.ct_node.specs.Worlds.{World}
 use Rattle.ct_tree.proofs.search.share_leaf.Goals as goal
 
 pub returns-in-Done-clause-stepped : goal.returns-in-Done-clause-stepped
@@ -7,3 +9,9 @@ returns-in-Done-clause-stepped g c = share_first c.args.walk.now c.args.above c.
 
 pub returns-in-Done-clause-keys : goal.returns-in-Done-clause-keys
 returns-in-Done-clause-keys g c = share_keys c.args.walk.now (stage.Leaf c.args.page) c.args.page (g.N.Nodes.world c.args.nodes.now) (g.N.Nodes.world c.share.new.self) c.requires c.in-Done.ensures.busy c.in-Done.ensures.world
+
+pub returns-in-Done-clause-rule : goal.returns-in-Done-clause-rule
+returns-in-Done-clause-rule g c = inr ((ap (λ (v : World). v.pages) c.in-Done.ensures.world), inr (inl (c.args.above, refl)))
+
+pub returns-in-More-clause-rule : goal.returns-in-More-clause-rule
+returns-in-More-clause-rule g c = inl (record { same = refl; world = c.in-More.ensures.world; less = c.in-More.ensures.left })

@@ -1,6 +1,43 @@
-use Rattle.std.proofs.Common.{sym}
+use Rattle.std.proofs.Common.{sym, ap, ◌∙◌, subst, length, Option, ℕ, ◌<◌, Bool}
 use Rattle.ct_tree.proofs.Done.{given_back}
+use Rattle.ct_tree.specs.Rules.{IsTurned}
+use Rattle.ct_tree.proofs.OneTurn.{rule_with}
+use Rattle.ct_tree.proofs.Counting.{circle_bad, counted_same, turn_counts}
+use Rattle.ct_tree_laws.proofs.Turns.{stays}
+use Rattle.ct_tree.proofs.Lefts.{moves_stay, may_move, turn_leaves}
+use Rattle.ct_tree.specs.Moves.{spot_of, moves_after, circle_at}
+use Rattle.ct_tree.specs.declared.moves.Spot.{Spot}
+use Rattle.ct_disk.specs.declared.turn.Turn.{Turn}
+use Rattle.std.specs.Prelude.{IfSome}
+use Rattle.ct_tree_laws.specs.declared.walk.Stage.{Stage}
 use Rattle.ct_tree.proofs.take.Take.turn.Goals as goal
 
 pub returns-clause-given_back : goal.returns-clause-given_back
 returns-clause-given_back g c = rw c.answer_with.ensures (given_back c.args.self.now.walk c.take_step-step.result.1 c.take_step-step.result.2 c.take_step-step.result.0 (g.N.Nodes.world c.args.nodes.now) (g.N.Nodes.world c.take_step-step.new.nodes) c.take_step-step.ensures.goes c.take_step-step.ensures.stepped)
+
+pub bad-requires : goal.bad-requires
+bad-requires g c = circle_bad c.args.self.now.walk c.args.self.now.stage c.args.self.now.moves c.pages-pages.result c.in-Some.page (g.N.Nodes.world c.args.nodes.now) c.requires.stands c.requires.counted c.pages-pages.ensures (ap (λ (spot : Option Spot). circle_at spot c.args.self.now.moves c.pages-pages.result) (sym c.spot_of-from.ensures) ∙ sym c.circle_at.ensures ∙ c.in-Some.is)
+
+pub returns-in-Some-clause-stepped : goal.returns-in-Some-clause-stepped
+returns-in-Some-clause-stepped g c = stays c.args.self.now.walk c.args.self.now.stage (g.N.Nodes.world c.args.nodes.now) (g.N.Nodes.world c.bad.new.self) c.bad.ensures.world c.requires.stands
+
+pub returns-in-Some-clause-moves : goal.returns-in-Some-clause-moves
+returns-in-Some-clause-moves g c = sym (moves_stay (spot_of c.args.self.now.stage) c.args.self.now.moves)
+
+pub returns-in-Some-clause-counted : goal.returns-in-Some-clause-counted
+returns-in-Some-clause-counted g c = counted_same (g.N.Nodes.world c.args.nodes.now) (g.N.Nodes.world c.bad.new.self) c.args.self.now.stage c.args.self.now.moves c.bad.ensures.world c.requires.counted
+
+pub moves_after-self-requires : goal.moves_after-self-requires
+moves_after-self-requires g c = may_move c.spot_of-from.result c.args.self.now.moves c.pages-pages.result (λ page is. c.in_default.not-Some page (c.circle_at.ensures ∙ is))
+
+pub returns-clause-moves : goal.returns-clause-moves
+returns-clause-moves g c = c.moves_after-self.ensures ∙ ap (λ (spot : Option Spot). moves_after spot c.spot_of.result c.args.self.now.moves) c.spot_of-from.ensures ∙ ap (λ (spot : Option Spot). moves_after (spot_of c.args.self.now.stage) spot c.args.self.now.moves) c.spot_of.ensures
+
+pub returns-clause-rule : goal.returns-clause-rule
+returns-clause-rule g c = subst (λ (turn : Turn Bool). IsTurned turn c.args.self.now.walk (g.N.Nodes.world c.args.nodes.now) (g.N.Nodes.world c.take_step-step.new.nodes) (g.N.Nodes.left c.args.nodes.now) (g.N.Nodes.left c.take_step-step.new.nodes) c.args.self.now.stage c.take_step-step.result.0) (sym c.answer_with.ensures) (rule_with c.take_step-step.result.1 c.take_step-step.result.2 c.args.self.now.walk (g.N.Nodes.world c.args.nodes.now) (g.N.Nodes.world c.take_step-step.new.nodes) (g.N.Nodes.left c.args.nodes.now) (g.N.Nodes.left c.take_step-step.new.nodes) c.args.self.now.stage c.take_step-step.result.0 (subst (λ (at : Stage). IsTurned c.take_step-step.result.1 c.args.self.now.walk (g.N.Nodes.world c.args.nodes.now) (g.N.Nodes.world c.take_step-step.new.nodes) (g.N.Nodes.left c.args.nodes.now) (g.N.Nodes.left c.take_step-step.new.nodes) at c.take_step-step.result.0) c.replace-stage.ensures.value c.take_step-step.ensures.rule))
+
+pub returns-clause-left : goal.returns-clause-left
+returns-clause-left g c = turn_leaves c.answer_with.result c.args.self.now.walk (g.N.Nodes.world c.args.nodes.now) (g.N.Nodes.world c.take_step-step.new.nodes) (g.N.Nodes.left c.args.nodes.now) (g.N.Nodes.left c.take_step-step.new.nodes) c.args.self.now.stage c.take_step-step.result.0 c.args.self.now.moves c.moves_after-self.result (returns-clause-rule g c) (subst (λ (spot : Option Spot). IfSome spot (λ _. c.args.self.now.moves < length (g.N.Nodes.world c.args.nodes.now).pages)) c.spot_of-from.ensures (subst (λ (n : ℕ). IfSome c.spot_of-from.result (λ _. c.args.self.now.moves < n)) c.pages-pages.ensures (may_move c.spot_of-from.result c.args.self.now.moves c.pages-pages.result (λ page is. c.in_default.not-Some page (c.circle_at.ensures ∙ is))))) (c.moves_after-self.ensures ∙ ap (λ (spot : Option Spot). moves_after spot c.spot_of.result c.args.self.now.moves) c.spot_of-from.ensures ∙ ap (λ (spot : Option Spot). moves_after (spot_of c.args.self.now.stage) spot c.args.self.now.moves) c.spot_of.ensures)
+
+pub returns-clause-counted : goal.returns-clause-counted
+returns-clause-counted g c = turn_counts c.take_step-step.result.1 c.args.self.now.walk (g.N.Nodes.world c.args.nodes.now) (g.N.Nodes.world c.take_step-step.new.nodes) (g.N.Nodes.left c.args.nodes.now) (g.N.Nodes.left c.take_step-step.new.nodes) c.args.self.now.stage c.take_step-step.result.0 c.args.self.now.moves c.moves_after-self.result c.requires.stands c.take_step-step.ensures.stepped (subst (λ (at : Stage). IsTurned c.take_step-step.result.1 c.args.self.now.walk (g.N.Nodes.world c.args.nodes.now) (g.N.Nodes.world c.take_step-step.new.nodes) (g.N.Nodes.left c.args.nodes.now) (g.N.Nodes.left c.take_step-step.new.nodes) at c.take_step-step.result.0) c.replace-stage.ensures.value c.take_step-step.ensures.rule) c.requires.counted (c.moves_after-self.ensures ∙ ap (λ (spot : Option Spot). moves_after spot c.spot_of.result c.args.self.now.moves) c.spot_of-from.ensures ∙ ap (λ (spot : Option Spot). moves_after (spot_of c.args.self.now.stage) spot c.args.self.now.moves) c.spot_of.ensures)

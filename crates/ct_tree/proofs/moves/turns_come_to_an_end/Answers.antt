@@ -1,0 +1,5 @@
+use Rattle.ct_tree.proofs.Lefts.{turn_falls}
+use Rattle.ct_tree.proofs.moves.turns_come_to_an_end.Goals as goal
+
+pub returns : goal.returns
+returns c = record { less = turn_falls }
