@@ -4,23 +4,29 @@
 mod begin;
 mod crown;
 mod descent;
+#[cfg(test)]
+mod fault_tests;
 mod laws;
 mod left;
-#[cfg(test)]
-mod left_tests;
 mod memory;
 mod moves;
 mod post;
 mod program;
 mod put;
+#[cfg(test)]
+mod random_tests;
 mod schedule;
 mod search;
 mod seek;
+#[cfg(test)]
+mod single_tests;
 mod split;
 mod split_above;
 #[cfg(test)]
 mod stop_tests;
 mod take;
+#[cfg(test)]
+mod test_tree;
 #[cfg(test)]
 mod tests;
 

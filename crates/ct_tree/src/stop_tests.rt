@@ -1,108 +1,160 @@
-//! A put into a full leaf that stops after each of its turns, with other operations beside it.
+//! Operations that stop after each of their turns, with others beside them.
 
-ghost use Rattle.std.specs.Prelude.{◌≡◌, false, IfOk};
-ghost use Rattle.ct_node.specs.MemWorlds.{world_of};
 ghost use Rattle.ct_tree.specs.Schedules.{IsReady};
+ghost use Rattle.ct_tree.specs.Answers.{IsSearchingBy};
 
 use super::*;
-use crate::left_tests::{INDEX, find, number_of, pages, put, target_of};
+use crate::test_tree::{Shape, Stop, TestTree};
 use ct_disk::Turn;
-use ct_items::NoMemory;
-use ct_node::{Mark, MemNodes, Target};
+use ct_node::Target;
 use std::alloc::Global;
+use std::test::Fail;
 
-/// How many bytes a key has: 27 pairs fill a leaf.
-const KEY_LEN: usize = 128;
+/// Keys so long that 27 pairs fill a leaf.
+const SHAPE: Shape = Shape {
+    key_len: 128,
+    alike: 1,
+};
 
 /// The number of the greatest pair.
-const LAST: u32 = 1000;
-
-/// Pages with a full leaf below all others: 41 pairs in falling order, of which the first split
-/// took 14 to the right.
-fn full_leaf(alloc: Global) -> Result<MemNodes, NoMemory>
-    ensures { IfOk result (λ nodes. (world_of nodes).founded ≡ false) }
-{
-    let mut nodes = pages(alloc, 128)?;
-    for n in 0..41 {
-        put(
-            alloc,
-            &mut nodes,
-            1,
-            target_of(alloc, LAST - n, KEY_LEN, 7)?,
-        );
-    }
-    Ok(nodes)
-}
-
-/// A put of this number, which is below all that stand.
-fn low_put(alloc: Global, op: u64, number: u32) -> Result<Program, NoMemory>
-    ensures { IfOk result IsReady }
-{
-    let target = target_of(alloc, number, KEY_LEN, 7)?;
-    Ok(Program::Put(Put::new(alloc, op, INDEX, target, Mark::NONE)))
-}
+const LAST: u64 = 1000;
 
 /// Gives so many turns to a program.
-fn give_turns(program: &mut Program, nodes: &mut MemNodes, turns: usize)
-    requires ready { IsReady program.old }
-    requires damaged { (world_of nodes.old).founded ≡ false }
-    ensures damaged { (world_of nodes.new).founded ≡ false }
+fn give_turns(tree: &mut TestTree, program: &mut Program, turns: usize)
+    requires { IsReady program.old }
 {
     for _turn in 0..turns {
-        let _answer = turn(program, nodes);
+        let _answer = tree.turn(program);
     }
 }
 
-/// Whether the operation is in the way of a program before it ends.
-fn is_barred(program: &mut Program, nodes: &mut MemNodes, by: u64) -> bool
-    requires ready { IsReady program.old }
-    requires damaged { (world_of nodes.old).founded ≡ false }
-    ensures damaged { (world_of nodes.new).founded ≡ false }
-{
-    for _turn in 0..100 {
-        match turn(program, nodes) {
-            Turn::Done(_answer) => return false,
-            Turn::More => {}
-            Turn::Busy { op } => return op == by,
-            Turn::Refused(_fault) => return false,
-        }
-    }
-    false
+/// Whether a put into a full leaf that has stopped after so many turns is in the way of another one,
+/// and the number of the last pair, as a search in the leaf to the right finds it. Of 41 pairs in
+/// falling order the first split took 14 to the right.
+fn beside_a_stopped_put(alloc: Global, turns: usize) -> Result<(bool, Option<u64>), Stop> {
+    let mut tree = TestTree::new(alloc, SHAPE)?;
+    tree.put_down(LAST - 40, LAST)?;
+    let op = tree.new_op();
+    let mut stopped = tree.new_put(op, 500)?;
+    give_turns(&mut tree, &mut stopped, turns);
+    put_beside(&mut tree, op)
 }
 
-/// Whether a put that has stopped after so many turns is in the way of another one into its leaf.
-fn bars_another(alloc: Global, nodes: &mut MemNodes, turns: usize) -> Result<bool, NoMemory>
-    requires damaged { (world_of nodes.old).founded ≡ false }
-    ensures damaged { (world_of nodes.new).founded ≡ false }
-{
-    let mut stopped = low_put(alloc, 9, 500)?;
-    give_turns(&mut stopped, nodes, turns);
-    let mut other = low_put(alloc, 10, 499)?;
-    Ok(is_barred(&mut other, nodes, 9))
-}
-
-/// The number of the last pair, as a search in the leaf to the right finds it.
-fn last_number(alloc: Global, nodes: &mut MemNodes) -> Option<u32>
-    requires damaged { (world_of nodes.old).founded ≡ false }
-{
-    let pair = find(alloc, nodes, Target::Last, Seek::AtOrBelow)??;
-    Some(number_of(&pair))
-}
-
-fn beside_a_stopped_put(alloc: Global, turns: usize) -> Result<(bool, Option<u32>), NoMemory> {
-    let mut nodes = full_leaf(alloc)?;
-    let barred = bars_another(alloc, &mut nodes, turns)?;
-    Ok((barred, last_number(alloc, &mut nodes)))
+/// Whether the operation is in the way of a put into the lowest leaf, and the number of the last pair.
+fn put_beside(tree: &mut TestTree, op: u64) -> Result<(bool, Option<u64>), Stop> {
+    let is_barred = tree.put(499) == Err(Stop::Busy { op });
+    let last = tree.find(Target::Last, Seek::AtOrBelow)?;
+    Ok((is_barred, last.map(|pair| pair.num)))
 }
 
 #[test]
-fn a_put_bars_another_while_it_has_the_leaf(rt: HostRuntime) -> Result<(), NoMemory> {
+fn a_put_bars_another_while_it_has_the_leaf(rt: HostRuntime) -> Result<(), Fail> {
     let has_leaf = [
         false, false, false, false, true, true, true, true, false, false,
     ];
     for turns in 0..has_leaf.len() {
         let beside = beside_a_stopped_put(rt.alloc(), turns)?;
-        assert_eq!(rt; beside, (has_leaf[turns], Some(LAST)));
+        assert_eq!(rt;
+            beside,
+            (has_leaf[turns], Some(LAST)),
+            "after {turns} turns"
+        );
+    }
+    Ok(())
+}
+
+/// Gives a search so many turns, or fewer where it ends.
+fn search_on(tree: &mut TestTree, search: &mut Search, turns: usize)
+    requires { IsSearchingBy search.old.seek search.old.stage }
+    ensures { IsSearchingBy search.new.seek search.new.stage }
+{
+    for _turn in 0..turns {
+        if let Turn::Done(_found) = tree.turn_search(search) {
+            return;
+        }
+    }
+}
+
+/// A tree of the pairs 100, 200 .. 6000, of which those from 2000 to 4700 are taken again, so that
+/// whole leaves have none.
+fn emptied(alloc: Global) -> Result<TestTree, Stop> {
+    let mut tree = TestTree::new(alloc, SHAPE)?;
+    for below in 0..60 {
+        tree.put(6000 - below * 100)?;
+    }
+    for more in 0..28 {
+        tree.take(2000 + more * 100)?;
+    }
+    Ok(tree)
+}
+
+/// Puts pairs between 1900 and 4800, each unless an operation is in the way: into leaves without a
+/// pair, and so many into the leaf to their left that it is split. The least and the greatest one that
+/// stand then.
+fn put_between(tree: &mut TestTree) -> Result<(u64, u64), Stop> {
+    let mut least = 4800;
+    let mut greatest = 1900;
+    for place in 0..45 {
+        let number = match place {
+            0 => 4750,
+            1 => 3950,
+            2 => 2050,
+            more => 1898 + more,
+        };
+        match tree.put(number) {
+            Ok(()) => {
+                least = number.min(least);
+                greatest = number.max(greatest);
+            }
+            Err(Stop::Busy { op: _ }) => {}
+            Err(other) => return Err(other),
+        }
+    }
+    Ok((least, greatest))
+}
+
+/// What a search finds past leaves without a pair that has stopped after so many turns while pairs
+/// are put there, and what it should find.
+fn find_beside_puts(
+    alloc: Global,
+    from: u64,
+    seek: Seek,
+    turns: usize,
+) -> Result<(Option<u64>, u64), Stop> {
+    let mut tree = emptied(alloc)?;
+    let target = tree.target(from)?;
+    let mut search = tree.new_search(target, seek);
+    search_on(&mut tree, &mut search, turns);
+    find_after_puts(&mut tree, &mut search, seek)
+}
+
+/// Puts the pairs, and then lets the search end.
+fn find_after_puts(
+    tree: &mut TestTree,
+    search: &mut Search,
+    seek: Seek,
+) -> Result<(Option<u64>, u64), Stop>
+    requires { IsSearchingBy search.old.seek search.old.stage }
+{
+    let (least, greatest) = put_between(tree)?;
+    let found = tree.run_search(search)?.map(|pair| pair.num);
+    match seek {
+        Seek::Above => Ok((found, least)),
+        _ => Ok((found, greatest)),
+    }
+}
+
+#[test]
+fn a_search_beside_puts_finds_the_nearest_pair(rt: HostRuntime) -> Result<(), Fail> {
+    for (from, seek) in [(1900, Seek::Above), (4800, Seek::Below)] {
+        for turns in 0..24usize {
+            let (found, nearest) = find_beside_puts(rt.alloc(), from, seek, turns)?;
+            assert_eq!(rt;
+                found,
+                Some(nearest),
+                "{seek:?} {from}, after {turns} turns"
+            );
+        }
     }
     Ok(())
 }

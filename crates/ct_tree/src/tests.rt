@@ -176,7 +176,9 @@ fn levels(nodes: &mut MemNodes) -> usize {
 }
 
 /// How many pairs stand in the leaves, from the first one on by right links.
-fn pairs(nodes: &mut MemNodes) -> usize {
+pub(crate) fn pairs(nodes: &mut MemNodes) -> usize
+    ensures { world_of nodes.new ≡ world_of nodes.old }
+{
     let mut page = 1;
     let mut count: usize = 0;
     let mut node = Node::new(0, 0, true, 1);

@@ -1,6 +1,0 @@
-use Rattle.std.proofs.Common.{◌≡◌, false}
-use Rattle.ct_node.specs.MemWorlds.{world_of}
-use Rattle.ct_tree.proofs.left_tests.take_between.Given as goal
-
-abbrev pub invariant-loop-number : goal.invariant-loop-number
-invariant-loop-number l = (world_of l.nodes).founded ≡ false

@@ -1,0 +1,5 @@
+use Rattle.ct_tree.specs.Answers.{IsSearchingBy}
+use Rattle.ct_tree.proofs.stop_tests.search_on.Given as goal
+
+abbrev pub invariant-loop-turn : goal.invariant-loop-turn
+invariant-loop-turn l = IsSearchingBy l.search.seek l.search.stage
