@@ -21,9 +21,9 @@ use Rattle.std.proofs.lemmas.Map.Text.{is_eq-slice_cmp}
 use Rattle.std.specs.BTreeMap.Comparable.{le_lt_trans}
 use Rattle.std.specs.Cmp.Lexicographic.{bytes_decides}
 use Rattle.ct_definitions.specs.Pairs.{Pair, pair_cmp}
-use Rattle.ct_pairs.specs.Finds.{least, greatest, is_above, is_below, has_key, is_at_or_above, is_key_above, is_at_or_below, is_key_below, is_in_set}
+use Rattle.ct_pairs.specs.Finds.{least, greatest, is_above, is_below, has_key, is_at_or_above, is_key_above, is_at_or_below, is_key_below, is_in_set, have_short_nums}
 use Rattle.ct_pairs.specs.Order.{pair_cmp_total}
-use Rattle.ct_pairs.proofs.PairLists.{IsInOrder, have_short_nums}
+use Rattle.ct_pairs.proofs.PairLists.{IsInOrder}
 
 -- ---- the first and the last of a range
 
@@ -137,7 +137,7 @@ greatest-before pair pairs = find-same _ (is_below pair) is_any (λ x _. not_is_
 
 -- ---- the first from a place on, where it meets a test
 
-find-never : (test : Pair → Bool) (P : Pair → Type 0) (xs : List Pair) → AllByRecursion P xs → ((y : Pair) → P y → test y ≡ false) → find test xs ≡ None
+pub find-never : (test : Pair → Bool) (P : Pair → Type 0) (xs : List Pair) → AllByRecursion P xs → ((y : Pair) → P y → test y ≡ false) → find test xs ≡ None
 find-never test P [] each never = refl
 find-never test P (x ∷ xs) each never = ap (λ here. cond here (Some x) (find test xs)) (never x each.0) ∙ find-never test P xs each.1 never
 
@@ -181,7 +181,7 @@ key_upto x y less = by_order (slice_cmp nat_cmp x.key y.key) less
     by_order Equal e = refl
     by_order Greater e = cc
 
-is_lt-Less : (o : Ordering) → is_lt o ≡ true → o ≡ Less
+pub is_lt-Less : (o : Ordering) → is_lt o ≡ true → o ≡ Less
 is_lt-Less Less is = refl
 is_lt-Less Equal is = cc
 is_lt-Less Greater is = cc
@@ -308,8 +308,8 @@ last_up_to-found end range pairs seen last rest between is takes =
 pub at_or_above-found : (pair : Pair) (key : List ℕ) (pairs : List Pair) → pair ≡ record { key = key; num = 0 } → least (is_from_start pair_cmp (Included pair)) pairs ≡ least (is_at_or_above key) pairs
 at_or_above-found pair key pairs is = ap (λ p. least (is_from_start pair_cmp (Included p)) pairs) is ∙ least-at_or_above key pairs
 
-pub above-found : (pair : Pair) (key : List ℕ) (own pairs : List Pair) → pair ≡ record { key = key; num = 18446744073709551615 } → own ≡ pairs → have_short_nums own ≡ true → least (is_from_start pair_cmp (Excluded pair)) pairs ≡ least (is_key_above key) pairs
-above-found pair key own pairs is_pair is short = ap (λ p. least (is_from_start pair_cmp (Excluded p)) pairs) is_pair ∙ least-above key pairs (ap have_short_nums (sym is) ∙ short)
+pub above-found : (pair : Pair) (key : List ℕ) (pairs : List Pair) → pair ≡ record { key = key; num = 18446744073709551615 } → have_short_nums pairs ≡ true → least (is_from_start pair_cmp (Excluded pair)) pairs ≡ least (is_key_above key) pairs
+above-found pair key pairs is_pair short = ap (λ p. least (is_from_start pair_cmp (Excluded p)) pairs) is_pair ∙ least-above key pairs short
 
 pub kept-none : (from test : Pair → Bool) (pairs : List Pair) → Begins from test → IsInOrder pairs → None ≡ least from pairs → None ≡ least test pairs
 kept-none from test pairs begins sorted none = sym (find-kept from test begins pairs sorted ∙ ap (kept test) (sym none))

@@ -1,4 +1,6 @@
 pub mod Finding
+pub mod Joined
 pub mod OtherKeys
 pub mod PairLists
+pub mod Places
 pub mod RowPairs

@@ -9,16 +9,12 @@ use Rattle.std.specs.Set.{remove_key}
 use Rattle.std.specs.BTreeSet.{insert_key}
 use Rattle.std.proofs.lemmas.Bool.{or_parts, and_parts, and_from, lt-ltb}
 use Rattle.ct_definitions.specs.Pairs.{Pair, pair_cmp, with_pair}
-use Rattle.ct_pairs.specs.Finds.{is_pair, has_pair, without_pair}
+use Rattle.ct_pairs.specs.Finds.{is_pair, has_pair, without_pair, have_short_nums}
 use Rattle.ct_pairs.specs.Order.{pair_cmp_total}
 
 -- each is below those after it
 abbrev pub IsInOrder : List Pair → Type 0
 IsInOrder pairs = IsStrictlySortedBy pair_cmp pairs
-
--- each number is one of 64 bits
-abbrev pub have_short_nums : List Pair → Bool
-have_short_nums pairs = list_all (λ pair. nat_lt pair.num (2 ^ 64)) pairs
 
 -- a pair that is not there is put at its place
 pub insert_key-new : (pair : Pair) (pairs : List Pair) → has_pair pair pairs ≡ false → insert_key pair_cmp pairs pair ≡ with_pair pair pairs
@@ -56,7 +52,7 @@ remove_key-pair pair (x ∷ xs) sorted = by_test (remove_key-pair pair xs sorted
     by_test rest false other = ap (λ ys. x ∷ ys) rest
 
 -- what holds of each pair and of a new one holds of all
-list_all-insert_key : (test : Pair → Bool) (pair : Pair) (pairs : List Pair) → test pair ≡ true → list_all test pairs ≡ true → list_all test (insert_key pair_cmp pairs pair) ≡ true
+pub list_all-insert_key : (test : Pair → Bool) (pair : Pair) (pairs : List Pair) → test pair ≡ true → list_all test pairs ≡ true → list_all test (insert_key pair_cmp pairs pair) ≡ true
 list_all-insert_key test pair [] own each = and_from (test pair) true own refl
 list_all-insert_key test pair (x ∷ xs) own each =
     let parts = and_parts (test x) (list_all test xs) each in
@@ -77,7 +73,7 @@ list_all-remove_key test gone (x ∷ xs) each =
     by_test first rest kept true = rest
     by_test first rest kept false = and_from (test x) _ first kept
 
-list_all-without : (test : Pair → Bool) (pair : Pair) (pairs : List Pair) → list_all test pairs ≡ true → list_all test (without_pair pair pairs) ≡ true
+pub list_all-without : (test : Pair → Bool) (pair : Pair) (pairs : List Pair) → list_all test pairs ≡ true → list_all test (without_pair pair pairs) ≡ true
 list_all-without test pair [] each = refl
 list_all-without test pair (x ∷ xs) each =
     let parts = and_parts (test x) (list_all test xs) each in

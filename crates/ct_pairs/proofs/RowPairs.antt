@@ -214,7 +214,7 @@ AllByRecursion-above : (low pair : Pair) (pairs : List Pair) → pair_cmp low pa
 AllByRecursion-above low pair [] less above = above
 AllByRecursion-above low pair (x ∷ xs) less above = (pair_cmp_total.trans low pair x less above.0, AllByRecursion-above low pair xs less above.1)
 
-IsInOrder-with_pair : (new : Pair) (pairs : List Pair) → has_pair new pairs ≡ false → IsInOrder pairs → IsInOrder (with_pair new pairs)
+pub IsInOrder-with_pair : (new : Pair) (pairs : List Pair) → has_pair new pairs ≡ false → IsInOrder pairs → IsInOrder (with_pair new pairs)
 unfolding IsStrictlySortedBy
 IsInOrder-with_pair new [] absent sorted = (sorted, sorted)
 IsInOrder-with_pair new (x ∷ xs) absent sorted =

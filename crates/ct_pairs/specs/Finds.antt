@@ -1,6 +1,6 @@
 -- What pairs hold, and what a search among them finds: a list's first or last pair that meets a test.
-use Rattle.std.specs.Prelude.{◌≡◌, ℕ, List, reverse, filter, find, Bool, true, false, not, ◌&&◌, ◌==◌, Option, Some, None, IfSome, IsSomeAnd, bytes_eq, nat_eq}
-use Rattle.std.specs.List.{list_any, starts_with}
+use Rattle.std.specs.Prelude.{◌≡◌, ℕ, List, reverse, filter, find, Bool, true, false, not, ◌&&◌, ◌==◌, Option, Some, None, IfSome, IsSomeAnd, bytes_eq, nat_eq, nat_lt, ◌^◌}
+use Rattle.std.specs.List.{list_any, list_all, starts_with}
 use Rattle.std.specs.Ordering.{nat_cmp, is_lt, is_le, is_eq}
 use Rattle.std.specs.Cmp.Lexicographic.{slice_cmp}
 use Rattle.ct_definitions.specs.declared.definition.IndexDef.{IndexDef}
@@ -23,6 +23,10 @@ has_pair pair pairs = list_any (is_pair pair) pairs
 -- the other pairs than one
 abbrev pub without_pair : Pair → List Pair → List Pair
 without_pair pair pairs = filter (λ other. not (is_pair pair other)) pairs
+
+-- whether each number is one of 64 bits
+abbrev pub have_short_nums : List Pair → Bool
+have_short_nums pairs = list_all (λ pair. nat_lt pair.num (2 ^ 64)) pairs
 
 -- whether a pair of another number has the key
 abbrev pub has_other_with : ℕ → List ℕ → List Pair → Bool

@@ -1,9 +1,10 @@
 //! The pairs of an index, each a key and the number of the record that has it, in order: putting
-//! one in, taking one out, and every search for one, by descents of a tree.
+//! one in, taking one out, and every search for one, by descents of a tree and halvings of a queue.
 //! What a search finds is said in `specs/Finds.antt`.
 #![tactic(auto)]
 
 mod laws;
+mod ordered;
 mod pair;
 mod pairs;
 mod seek;

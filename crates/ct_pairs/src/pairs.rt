@@ -1,5 +1,6 @@
 //! `Pairs`, the pairs of one index, which contracts see as their list in order.
-//! They stand in an ordered set, so that each operation takes time by the logarithm of their count.
+//! A pair above all others goes behind them. Every other operation takes time by the logarithm of their
+//! count, averaged over operations.
 
 ghost use Rattle.std.specs.Prelude.{◌≡◌, ℕ, false, not, ◌&&◌, [], length, IsTrue, OnOk, OnErr};
 ghost use Rattle.std.specs.Option.{option_copied};
@@ -9,33 +10,28 @@ ghost use Rattle.std.specs.BTreeMap.Range.{is_from_start, is_past_end};
 ghost use Rattle.ct_definitions.specs.Pairs.{with_pair, pair_cmp};
 ghost use Rattle.ct_pairs.specs.Finds.{has_pair, without_pair, has_other_with, found_pair, least, greatest, is_above, is_below, has_key, is_at_or_above, is_key_above, is_at_or_below, is_key_below, is_in_set};
 
+use crate::ordered::Ordered;
 use crate::pair::Pair;
 use crate::seek::Seek;
 use ct_items::NoMemory;
 use std::alloc::Global;
-use std::collections::BTreeSet;
 use std::marker::Model;
 use std::ops::Bound;
 
 /// The pairs of one index, in order.
 #[derive(Drop)]
 pub struct Pairs {
-    set: BTreeSet<Pair, Global>,
+    ordered: Ordered,
     alloc: Global,
 }
 
 impl Model for Pairs {
-    ghost use Rattle.std.specs.Prelude.{◌≡◌, ◌^◌, List, true, nat_lt};
-    ghost use Rattle.std.specs.List.{list_all};
-    ghost use Rattle.std.specs.List.Sorted.{IsStrictlySortedBy};
-    ghost use Rattle.ct_definitions.specs.Pairs.{Pair, pair_cmp};
+    ghost use Rattle.std.specs.Prelude.{List};
+    ghost use Rattle.ct_definitions.specs.Pairs.{Pair};
 
     ghost Value = { List Pair };
 
-    ghost view = { λ pairs. pairs.set.keys };
-
-    ghost invariant = { λ pairs. IsStrictlySortedBy pair_cmp pairs.set.keys
-        × (list_all (λ pair. nat_lt pair.num (2 ^ 64)) pairs.set.keys ≡ true) };
+    ghost view = { λ pairs. pairs.ordered };
 }
 
 impl Pairs {
@@ -44,7 +40,7 @@ impl Pairs {
         ensures { result ≡ [] }
     {
         Pairs {
-            set: BTreeSet::new(alloc),
+            ordered: Ordered::new(alloc),
             alloc,
         }
     }
@@ -53,14 +49,14 @@ impl Pairs {
     pub fn len(&self) -> usize
         ensures { result ≡ length self.now }
     {
-        self.set.len()
+        self.ordered.len()
     }
 
     /// Whether the pair is among them.
     pub fn contains(&self, pair: &Pair) -> bool
         ensures { result ≡ has_pair pair.now self.now }
     {
-        self.set.contains(pair)
+        self.ordered.contains(pair)
     }
 
     /// Puts a pair that is not among them at its place.
@@ -69,17 +65,13 @@ impl Pairs {
         ensures ok { OnOk result (self.new ≡ with_pair pair self.old) }
         ensures err { OnErr result (self.new ≡ self.old) }
     {
-        // Read for its range: each number here has 64 bits, on which the searches above a key rest.
-        let _num = pair.num();
-        match self.set.insert(pair) {
-            Ok(_new) => Ok(()),
-            Err(_refused) => Err(NoMemory),
-        }
+        self.ordered.put(pair)
     }
 
     /// Takes the pair of a key and a number out, where it is among them.
     ///
-    /// For a key of more than 16 bytes all pairs are gone over where there is no memory.
+    /// All pairs are gone over where there is no memory: for a key of more than 16 bytes, or for pairs that
+    /// move into the set.
     pub fn take(&mut self, key: &[u8], num: u64)
         ensures { self.new ≡ without_pair (record { key = key.now; num = num }) self.old }
     {
@@ -93,14 +85,14 @@ impl Pairs {
     fn remove(&mut self, pair: &Pair)
         ensures { self.new ≡ without_pair pair.now self.old }
     {
-        let _found = self.set.remove(pair);
+        self.ordered.remove(pair);
     }
 
     // Takes the pair of a key and a number out, without memory: it goes over all pairs.
     fn keep_others(&mut self, key: &[u8], num: u64)
         ensures { self.new ≡ without_pair (record { key = key.now; num = num }) self.old }
     {
-        self.set.retain(|pair| !pair.is_of(key, num));
+        self.ordered.keep_others(key, num);
     }
 
     /// Whether a pair of another number has the key.
@@ -148,7 +140,7 @@ impl Pairs {
     fn ends_below(&self, key: &[u8]) -> bool
         ensures { IsTrue result → (num : ℕ) → has_other_with num key.now self.now ≡ false }
     {
-        match self.set.last() {
+        match self.ordered.last() {
             Some(last) => last.key().cmp(&key).is_lt(),
             None => false,
         }
@@ -159,14 +151,14 @@ impl Pairs {
         ensures found { option_copied result ≡ least (is_from_start pair_cmp (bound_map (λ pair. pair.now) start.entry)) self.now }
         ensures ordered { IsStrictlySortedBy pair_cmp self.now }
     {
-        self.set.range((start, Bound::Unbounded)).next()
+        self.ordered.first_from(start)
     }
 
     // The greatest pair up to the bound.
     fn last_up_to(&self, end: Bound<&Pair>) -> Option<&Pair>
         ensures { option_copied result ≡ greatest (λ pair. not (is_past_end pair_cmp (bound_map (λ other. other.now) end.entry) pair)) self.now }
     {
-        self.set.range((Bound::Unbounded, end)).next_back()
+        self.ordered.last_up_to(end)
     }
 
     // The greatest pair below this one.
@@ -183,7 +175,7 @@ impl Pairs {
     {
         match Pair::new(self.alloc, key, 0) {
             Ok(pair) => self.first_from(Bound::Included(&pair)),
-            Err(_) => self.set.iter().find(|pair| key.cmp(&pair.key()).is_le()),
+            Err(_) => self.ordered.find_at_or_above(key),
         }
     }
 
@@ -193,8 +185,8 @@ impl Pairs {
         ensures ordered { IsStrictlySortedBy pair_cmp self.now }
     {
         match Pair::new(self.alloc, key, u64::MAX) {
-            Ok(pair) => self.first_from(Bound::Excluded(&pair)),
-            Err(_) => self.set.iter().find(|pair| key.cmp(&pair.key()).is_lt()),
+            Ok(pair) => self.ordered.first_from(Bound::Excluded(&pair)),
+            Err(_) => self.ordered.find_above(key),
         }
     }
 

@@ -3,6 +3,7 @@
 use crate::{Pair, Pairs, Seek};
 use ct_items::NoMemory;
 use std::alloc::Global;
+use std::process::Abort;
 use std::test::Fail;
 
 fn pair(alloc: Global, key: &[u8], num: u64) -> Result<Pair, NoMemory> {
@@ -127,4 +128,73 @@ fn long_and_short_keys_stand_by_their_bytes(rt: HostRuntime) -> Result<(), Fail>
     assert_eq!(rt; num_of(pairs.find(Seek::AtOrAbove(keys[3]))), Some(5));
     assert_eq!(rt; pairs.len(), 4);
     Ok(())
+}
+
+// The pair of a key of one byte, numbered as its byte.
+fn of_byte(alloc: Global, byte: u8) -> Result<Pair, NoMemory> {
+    pair(alloc, &[byte], u64::from(byte))
+}
+
+fn num_of_byte(byte: Option<&u8>) -> Option<u64> {
+    byte.map(|byte| u64::from(*byte))
+}
+
+// Each search around a byte finds what stands in the list, which has the bytes of all pairs in order.
+fn agree_at(
+    rt: &impl Abort,
+    alloc: Global,
+    pairs: &Pairs,
+    bytes: &[u8],
+    at: u8,
+) -> Result<(), Fail> {
+    let here = of_byte(alloc, at)?;
+    let key = [at];
+    let from = num_of_byte(bytes.iter().find(|byte| **byte >= at));
+    let above = num_of_byte(bytes.iter().find(|byte| **byte > at));
+    let up_to = num_of_byte(bytes.iter().rev().find(|byte| **byte <= at));
+    let below = num_of_byte(bytes.iter().rev().find(|byte| **byte < at));
+    let own = num_of_byte(bytes.iter().find(|byte| **byte == at));
+    assert_eq!(rt; num_of(pairs.find(Seek::AtOrAbove(&key))), from);
+    assert_eq!(rt; num_of(pairs.find(Seek::Above(&key))), above);
+    assert_eq!(rt; num_of(pairs.find(Seek::Next(&here))), above);
+    assert_eq!(rt; num_of(pairs.find(Seek::NextInSet(&here, b""))), above);
+    assert_eq!(rt; num_of(pairs.find(Seek::AtOrBelow(&key))), up_to);
+    assert_eq!(rt; num_of(pairs.find(Seek::Below(&key))), below);
+    assert_eq!(rt; num_of(pairs.find(Seek::Prev(&here))), below);
+    assert_eq!(rt; num_of(pairs.find(Seek::Equal(&key))), own);
+    assert_eq!(rt; num_of(pairs.find(Seek::FirstInSet(&key))), own);
+    assert_eq!(rt; pairs.contains(&here), own.is_some());
+    Ok(())
+}
+
+fn agree(rt: &impl Abort, alloc: Global, pairs: &Pairs, bytes: &[u8]) -> Result<(), Fail> {
+    assert_eq!(rt; pairs.len(), bytes.len());
+    assert_eq!(rt; num_of(pairs.find(Seek::First)), num_of_byte(bytes.first()));
+    assert_eq!(rt; num_of(pairs.find(Seek::Last)), num_of_byte(bytes.last()));
+    for at in 1..16 {
+        agree_at(rt, alloc, pairs, bytes, at)?;
+    }
+    Ok(())
+}
+
+#[test]
+fn pairs_in_rising_order_are_found_among_others(rt: HostRuntime) -> Result<(), Fail> {
+    let mut pairs = Pairs::new(rt.alloc());
+    for byte in [2, 4, 6, 8, 10, 12, 14] {
+        add(&mut pairs, of_byte(rt.alloc(), byte)?)?;
+    }
+    agree(&rt, rt.alloc(), &pairs, &[2, 4, 6, 8, 10, 12, 14])?;
+    for byte in [9, 3, 13, 5] {
+        add(&mut pairs, of_byte(rt.alloc(), byte)?)?;
+    }
+    agree(
+        &rt,
+        rt.alloc(),
+        &pairs,
+        &[2, 3, 4, 5, 6, 8, 9, 10, 12, 13, 14],
+    )?;
+    for byte in [8, 14, 2, 7] {
+        pairs.take(&[byte], u64::from(byte));
+    }
+    agree(&rt, rt.alloc(), &pairs, &[3, 4, 5, 6, 9, 10, 12, 13])
 }
