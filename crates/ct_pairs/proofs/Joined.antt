@@ -1,5 +1,5 @@
 -- Pairs in order as those before a place and those behind it.
-use Rattle.std.proofs.Common.{◌≡◌, ◌^◌, ◌-◌, ◌<◌, ◌≤◌, nat_lt, Bool, true, false, not, cond, List, [], ◌∷◌, ◌++◌, length, get_or, reverse, Option, Some, None, Result, Ok, Err, OnOk, OnErr, All, append_assoc, ⊎_elim, subst, refl, sym, ap, ◌∙◌, arith}
+use Rattle.std.proofs.Common.{◌≡◌, ℕ, zero, suc, ◌&&◌, ◌||◌, ◌^◌, ◌-◌, ◌<◌, ◌≤◌, nat_lt, Bool, true, false, not, cond, List, [], ◌∷◌, ◌++◌, length, get_or, reverse, Option, Some, None, Result, Ok, Err, OnOk, OnErr, All, append_assoc, ⊎_elim, subst, refl, sym, ap, ◌∙◌, arith}
 use Rattle.std.specs.List.{list_all, find, AllByRecursion}
 use Rattle.std.specs.List.Sorted.{IsStrictlySortedBy}
 use Rattle.std.specs.Option.{option_or}
@@ -20,6 +20,7 @@ use Rattle.ct_definitions.specs.Pairs.{Pair, pair_cmp, with_pair}
 use Rattle.ct_pairs.specs.Finds.{is_pair, has_pair, without_pair, least, greatest, is_above, is_below, have_short_nums}
 use Rattle.ct_pairs.specs.Order.{pair_cmp_total}
 use Rattle.ct_pairs.proofs.PairLists.{IsInOrder, insert_key-new, remove_key-pair, list_all-insert_key, list_all-without}
+use Rattle.ct_pairs.proofs.Finding.{and_false}
 use Rattle.ct_pairs.proofs.RowPairs.{IsInOrder-with_pair}
 
 -- ---- order
@@ -199,6 +200,15 @@ not_lt-le Less past = cc
 not_lt-le Equal past = refl
 not_lt-le Greater past = refl
 
+or_true : (b : Bool) → (b || true) ≡ true
+or_true true = refl
+or_true false = refl
+
+is_eq-Equal : (o : Ordering) → is_eq o ≡ true → o ≡ Equal
+is_eq-Equal Less same = cc
+is_eq-Equal Equal same = refl
+is_eq-Equal Greater same = cc
+
 -- a pair above the last one is above all
 all_below : (pair last : Pair) (xs : List Pair) → is_lt (pair_cmp last pair) ≡ true → AllByRecursion (λ y. is_lt (pair_cmp last y) ≡ false) xs → list_all (is_below pair) xs ≡ true
 all_below pair last [] above each = refl
@@ -207,8 +217,37 @@ all_below pair last (x ∷ xs) above each =
     let below : pair_cmp x pair ≡ Less = le_lt_trans pair_cmp_total x last pair up_to (is_lt-Less (pair_cmp last pair) above) in
     and_from (is_below pair x) (list_all (is_below pair) xs) (ap is_lt below) (all_below pair last xs above each.1)
 
-pub above_last : (pair last : Pair) (xs : List Pair) → is_lt (pair_cmp last pair) ≡ true → All (λ y. is_lt (pair_cmp last y) ≡ false) xs → list_all (is_below pair) xs ≡ true
-above_last pair last xs above each = all_below pair last xs above (recursion_from_All _ xs each)
+-- and one that is not above it is not
+not_all_below : (pair last : Pair) (xs : List Pair) → is_lt (pair_cmp last pair) ≡ false → has_pair last xs ≡ true → list_all (is_below pair) xs ≡ false
+not_all_below pair last [] past among = cc
+not_all_below pair last (x ∷ xs) past among = by_test (not_all_below pair last xs past) (is_pair last x) refl among
+  where
+    by_test : (has_pair last xs ≡ true → list_all (is_below pair) xs ≡ false) → (here : Bool) → is_pair last x ≡ here → (here || has_pair last xs) ≡ true → (is_below pair x && list_all (is_below pair) xs) ≡ false
+    by_test rest true same e =
+        let own : pair_cmp last pair ≡ pair_cmp x pair = pair_cmp_total.congr last x pair (is_eq-Equal (pair_cmp last x) same) in
+        ap (λ b. b && list_all (is_below pair) xs) (ap is_lt (sym own) ∙ past)
+    by_test rest false other e = ap (λ b. is_below pair x && b) (rest e) ∙ and_false (is_below pair x)
+
+pub above_last : (pair last : Pair) (xs : List Pair) → All (λ y. is_lt (pair_cmp last y) ≡ false) xs → has_pair last xs ≡ true → is_lt (pair_cmp last pair) ≡ list_all (is_below pair) xs
+above_last pair last xs each among = by_test (is_lt (pair_cmp last pair)) refl
+  where
+    by_test : (above : Bool) → is_lt (pair_cmp last pair) ≡ above → above ≡ list_all (is_below pair) xs
+    by_test true above = sym (all_below pair last xs above (recursion_from_All (λ y. is_lt (pair_cmp last y) ≡ false) xs each))
+    by_test false past = sym (not_all_below pair last xs past among)
+
+has_pair-at : (pair : Pair) (ys : List Pair) (k : ℕ) → k < length ys → pair ≡ get_or ys k pair → has_pair pair ys ≡ true
+has_pair-at pair [] k within is = let no : ⊥ = omega arith in absurd no
+has_pair-at pair (y ∷ ys) zero within is =
+    ap (λ b. b || has_pair pair ys) (ap (λ x. is_eq (pair_cmp pair x)) (sym is) ∙ ap is_eq (tied_itself pair_cmp_total pair))
+has_pair-at pair (y ∷ ys) (suc k) within is = ap (λ b. is_pair pair y || b) (has_pair-at pair ys k (omega arith) is) ∙ or_true (is_pair pair y)
+
+-- the last pair is one of all
+pub last-among : (xs ys seen : List Pair) (last : Pair) → xs ++ ys ≡ seen → 0 < length ys → last ≡ get_or ys (length ys - 1) last → has_pair last seen ≡ true
+last-among xs ys seen last is some at =
+    ap (has_pair last) (sym is)
+    ∙ list_any-append (is_pair last) xs ys
+    ∙ ap (λ b. has_pair last xs || b) (has_pair-at last ys (length ys - 1) (omega arith) at)
+    ∙ or_true (has_pair last xs)
 
 -- ---- the first pair behind a place
 
@@ -225,6 +264,18 @@ above_first pair first (y ∷ ys) sorted some is past =
     let less : pair_cmp pair first ≡ Less = pair_cmp_total.antisymm pair first ∙ not_is_le-Less (pair_cmp first pair) past in
     let own : pair_cmp pair y ≡ Less = subst (λ x. pair_cmp pair x ≡ Less) is less in
     and_from (is_above pair y) (list_all (is_above pair) ys) (ap is_lt own) (all_above pair y ys own sorted.0)
+
+-- and one that is not below it is not
+pub up_to_first : (pair first : Pair) (ys : List Pair) → 0 < length ys → first ≡ get_or ys 0 first → is_le (pair_cmp first pair) ≡ true → list_all (is_above pair) ys ≡ false
+up_to_first pair first [] some is up_to = let no : ⊥ = omega arith in absurd no
+up_to_first pair first (y ∷ ys) some is up_to =
+    ap (λ b. b && list_all (is_above pair) ys)
+    (ap (λ x. is_lt (pair_cmp pair x)) (sym is) ∙ ap is_lt (pair_cmp_total.antisymm pair first) ∙ is_le-not_lt (pair_cmp first pair) up_to)
+  where
+    is_le-not_lt : (o : Ordering) → is_le o ≡ true → is_lt (ordering_reverse o) ≡ false
+    is_le-not_lt Less up = refl
+    is_le-not_lt Equal up = refl
+    is_le-not_lt Greater up = cc
 
 -- ---- a pair is put, or is not for want of memory
 

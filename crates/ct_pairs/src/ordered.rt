@@ -110,6 +110,7 @@ impl Ordered {
     /// The last pair.
     pub(crate) fn last(&self) -> Option<&Pair>
         ensures some { IfSome result (λ last. All (λ pair. is_lt (pair_cmp last.now pair) ≡ false) self.now) }
+        ensures among { IfSome result (λ last. has_pair last.now self.now ≡ true) }
         ensures none { IfNone result (self.now ≡ []) }
     {
         match self.tail.back() {
@@ -120,7 +121,7 @@ impl Ordered {
 
     // Whether each pair is below this one.
     fn ends_below(&self, pair: &Pair) -> bool
-        ensures { IsTrue result → list_all (is_below pair.now) self.now ≡ true }
+        ensures { result ≡ list_all (is_below pair.now) self.now }
     {
         match self.last() {
             Some(last) => last < pair,
@@ -204,6 +205,7 @@ fn move_up_to(
 fn begins_up_to(tail: &VecDeque<Pair, Global>, pair: &Pair) -> bool
     requires { IsStrictlySortedBy pair_cmp tail.now.items }
     ensures some { IsTrue result → 0 < deque_len tail.now }
+    ensures up_to { IsTrue result → list_all (is_above pair.now) tail.now.items ≡ false }
     ensures above { result ≡ false → list_all (is_above pair.now) tail.now.items ≡ true }
 {
     match tail.front() {
