@@ -8,50 +8,23 @@ best processor time of three runs, prints the time of one put and of one get, an
     bench/tree.py [COUNT]
 """
 
-import pathlib
-import resource
-import subprocess
 import sys
 
-TOP = pathlib.Path(__file__).resolve().parent.parent
-PROGRAM = TOP / "crates/treebench/out/treebench"
+from timing import built, seconds
 
 
-def build():
-    """Builds the program, with its proofs."""
-    subprocess.run(["rt", "run", "--", "map-get", "100"], cwd=TOP / "crates/treebench", check=True,
-                   stdin=subprocess.DEVNULL, stdout=subprocess.DEVNULL, stderr=subprocess.DEVNULL)
-
-
-def spent():
-    """Seconds of processor time of the runs so far."""
-    usage = resource.getrusage(resource.RUSAGE_CHILDREN)
-    return usage.ru_utime + usage.ru_stime
-
-
-def seconds(work, count):
-    """Seconds of processor time for so many pairs, the best of three runs."""
-    best = float("inf")
-    for _ in range(3):
-        before = spent()
-        subprocess.run([PROGRAM, work, str(count)], check=True, stdout=subprocess.DEVNULL)
-        best = min(best, spent() - before)
-    return best
-
-
-def nanoseconds(where, count):
+def nanoseconds(program, where, count):
     """Nanoseconds of one put and of one get."""
-    put = seconds(f"{where}-put", count)
-    get = seconds(f"{where}-get", count) - put
+    put = seconds(program, f"{where}-put", count, 3)
+    get = seconds(program, f"{where}-get", count, 3) - put
     return put / count * 1e9, get / count * 1e9
 
 
 def main():
     count = int(sys.argv[1]) if len(sys.argv) > 1 else 1_000_000
-    if not PROGRAM.exists():
-        build()
-    tree = nanoseconds("tree", count)
-    std = nanoseconds("map", count)
+    program = built("treebench", "map-get", "100")
+    tree = nanoseconds(program, "tree", count)
+    std = nanoseconds(program, "map", count)
     for name, ours, theirs in zip(("put", "get"), tree, std):
         print(f"{name} {ours:7.0f} ns, in the map {theirs:7.0f} ns, ratio {ours / theirs:.2f}")
 
