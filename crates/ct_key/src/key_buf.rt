@@ -76,6 +76,14 @@ impl KeyBuf {
         self.bytes.push_reserved(byte);
     }
 
+    /// Adds bytes, with which there are at most 128, so that there is room.
+    pub(crate) fn extend_within(&mut self, bytes: &[u8])
+        requires { length self.old + length bytes.now ≤ LONGEST_KEY }
+        ensures { self.new ≡ self.old ++ bytes.now }
+    {
+        let _has_room = self.bytes.extend_from_slice(bytes);
+    }
+
     /// Takes all bytes out.
     pub fn clear(&mut self)
         ensures { self.new ≡ [] }

@@ -39,6 +39,9 @@ pub fn compare_by_fronts(front: u64, bytes: &[u8], other_front: u64, others: &[u
 pub fn front_number(bytes: &[u8]) -> u64
     ensures { result ≡ front_number bytes.now }
 {
+    if 8 <= bytes.len() {
+        return front_of(bytes);
+    }
     u64::from_be_bytes([
         byte_at(bytes, 0),
         byte_at(bytes, 1),
@@ -62,6 +65,7 @@ fn byte_at(bytes: &[u8], place: usize) -> u8
 fn front_of(bytes: &[u8]) -> u64
     requires { 8 ≤ length bytes.now }
     ensures number { result ≡ number_of (reverse (take 8 bytes.now)) }
+    ensures front { result ≡ front_number bytes.now }
     ensures bytes { (k : ℕ) → slice_index bytes.now k < 256 }
 {
     u64::from_be_bytes([

@@ -80,6 +80,9 @@ fn add_plain(bytes: &[u8], desc: bool, into: &mut KeyBuf)
     requires { length into.old + length bytes.now ≤ LONGEST_KEY }
     ensures { into.new ≡ into.old ++ in_order desc bytes.now }
 {
+    if !desc {
+        return into.extend_within(bytes);
+    }
     for byte in bytes {
         into.push_within(byte_in_order(desc, *byte));
     }
