@@ -14,6 +14,7 @@ use crate::ordered::Ordered;
 use crate::pair::Pair;
 use crate::seek::Seek;
 use ct_items::NoMemory;
+use ct_key::compare_bytes;
 use std::alloc::Global;
 use std::marker::Model;
 use std::ops::Bound;
@@ -141,7 +142,7 @@ impl Pairs {
         ensures { IsTrue result → (num : ℕ) → has_other_with num key.now self.now ≡ false }
     {
         match self.ordered.last() {
-            Some(last) => last.key().cmp(&key).is_lt(),
+            Some(last) => compare_bytes(last.key(), key).is_lt(),
             None => false,
         }
     }

@@ -10,5 +10,5 @@ pub returns-in-Some : goal.returns-in-Some
 returns-in-Some c = λ below.
     let last = c.in-Some.last.now in
     let own : c.key.result.now ≡ last.key = c.key.ensures in
-    let less = ap (λ (l : List ℕ). is_lt (slice_cmp nat_cmp l c.args.key.now)) (sym own) ∙ ap is_lt (sym c.cmp.ensures) ∙ sym c.is_lt.ensures ∙ below in
+    let less = ap (λ (l : List ℕ). is_lt (slice_cmp nat_cmp l c.args.key.now)) (sym own) ∙ ap is_lt (sym c.compare_bytes.ensures) ∙ sym c.is_lt.ensures ∙ below in
     none_up_to c.args.key.now last c.args.self.now less (subst (λ (l : List Pair). All (λ x. is_lt (pair_cmp last x) ≡ false) l) c.self.view_is c.in-Some.ensures.some)
