@@ -125,6 +125,15 @@ num_differs own seen num is differs = ne_eqb own num (λ same. differs (is ∙ s
 pub num_same : (own seen num : ℕ) → seen ≡ own → seen ≡ num → (own == num) ≡ true
 num_same own seen num is same = eq-eqb own num (sym is ∙ same)
 
+-- a pair with a lower key is below
+pub key_below : (pair other : Pair) → is_lt (slice_cmp nat_cmp pair.key other.key) ≡ true → is_lt (pair_cmp pair other) ≡ true
+key_below pair other lower = first_lt (slice_cmp nat_cmp pair.key other.key) (nat_cmp pair.num other.num) lower
+  where
+    first_lt : (first second : Ordering) → is_lt first ≡ true → is_lt (ordering_then first second) ≡ true
+    first_lt Less second is = refl
+    first_lt Equal second is = cc
+    first_lt Greater second is = cc
+
 -- where the last pair's key is below the key, no other has it
 pub none_up_to : (key : List ℕ) (last : Pair) (xs : List Pair) → is_lt (slice_cmp nat_cmp last.key key) ≡ true → All (λ x. is_lt (pair_cmp last x) ≡ false) xs → (num : ℕ) → has_other_with num key xs ≡ false
 none_up_to key last [] below all num = refl
@@ -134,10 +143,5 @@ none_up_to key last (x ∷ xs) below all num =
     let rest : All (λ y. is_lt (pair_cmp last y) ≡ false) xs = λ k d within. all (suc k) d (omega arith) in
     ap (λ b. b || has_other_with num key xs) (is_other-no_key num key x apart) ∙ none_up_to key last xs below rest num
   where
-    first_lt : (first second : Ordering) → is_lt first ≡ true → is_lt (ordering_then first second) ≡ true
-    first_lt Less second is = refl
-    first_lt Equal second is = cc
-    first_lt Greater second is = cc
-
     above : x.key ≡ key → is_lt (pair_cmp last x) ≡ true
-    above same = first_lt (slice_cmp nat_cmp last.key x.key) (nat_cmp last.num x.num) (ap (λ (l : List ℕ). is_lt (slice_cmp nat_cmp last.key l)) same ∙ below)
+    above same = key_below last x (ap (λ (l : List ℕ). is_lt (slice_cmp nat_cmp last.key l)) same ∙ below)

@@ -78,13 +78,25 @@ impl Ordered {
         // Read for its range: each number here has 64 bits, on which the searches above a key rest.
         let _num = pair.num();
         if self.ends_below(&pair) {
-            return push(&mut self.tail, pair);
+            return self.push(pair);
         }
         move_up_to(&mut self.set, &mut self.tail, &pair)?;
         match self.set.insert(pair) {
             Ok(_new) => Ok(()),
             Err(_refused) => Err(NoMemory),
         }
+    }
+
+    /// Puts a pair that is above all others behind them.
+    pub(crate) fn push(&mut self, pair: Pair) -> Result<(), NoMemory>
+        requires new { has_pair pair self.old ≡ false }
+        requires below { list_all (is_below pair) self.old ≡ true }
+        ensures ok { OnOk result (self.new ≡ with_pair pair self.old) }
+        ensures err { OnErr result (self.new ≡ self.old) }
+    {
+        // Read for its range, as in `put`.
+        let _num = pair.num();
+        push(&mut self.tail, pair)
     }
 
     /// Takes the pair out, where it is among them. Where there is no memory, it goes over all pairs.

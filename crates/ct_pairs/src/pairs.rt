@@ -2,8 +2,9 @@
 //! A pair above all others goes behind them. Every other operation takes time by the logarithm of their
 //! count, averaged over operations.
 
-ghost use Rattle.std.specs.Prelude.{◌≡◌, ℕ, false, not, ◌&&◌, [], length, IsTrue, OnOk, OnErr};
+ghost use Rattle.std.specs.Prelude.{◌≡◌, ℕ, true, false, not, ◌&&◌, [], length, IsTrue, Ok, OnOk, OnErr};
 ghost use Rattle.std.specs.Option.{option_copied};
+ghost use Rattle.std.specs.List.{list_all};
 ghost use Rattle.std.specs.List.Sorted.{IsStrictlySortedBy};
 ghost use Rattle.std.specs.Range.Bound.{bound_map};
 ghost use Rattle.std.specs.BTreeMap.Range.{is_from_start, is_past_end};
@@ -67,6 +68,27 @@ impl Pairs {
         ensures err { OnErr result (self.new ≡ self.old) }
     {
         self.ordered.put(pair)
+    }
+
+    /// Puts a pair that is not among them at its place, unless a pair of another number has its key. Answers
+    /// whether it was put.
+    pub fn put_alone(&mut self, pair: Pair) -> Result<bool, NoMemory>
+        requires { has_pair pair self.old ≡ false }
+        ensures put { result ≡ Ok true → self.new ≡ with_pair pair self.old }
+        ensures alone { result ≡ Ok true → has_other_with pair.num pair.key self.old ≡ false }
+        ensures kept { result ≡ Ok false → self.new ≡ self.old }
+        ensures taken { result ≡ Ok false → has_other_with pair.num pair.key self.old ≡ true }
+        ensures err { OnErr result (self.new ≡ self.old) }
+    {
+        if self.ends_below(pair.key()) {
+            self.ordered.push(pair)?;
+            return Ok(true);
+        }
+        if self.has_other_with(pair.num(), pair.key()) {
+            return Ok(false);
+        }
+        self.ordered.put(pair)?;
+        Ok(true)
     }
 
     /// Takes the pair of a key and a number out, where it is among them.
@@ -139,7 +161,8 @@ impl Pairs {
 
     // Whether the last pair's key is below the key, as where keys come in order.
     fn ends_below(&self, key: &[u8]) -> bool
-        ensures { IsTrue result → (num : ℕ) → has_other_with num key.now self.now ≡ false }
+        ensures free { IsTrue result → (num : ℕ) → has_other_with num key.now self.now ≡ false }
+        ensures below { IsTrue result → (num : ℕ) → list_all (is_below (record { key = key.now; num = num })) self.now ≡ true }
     {
         match self.ordered.last() {
             Some(last) => compare_bytes(last.key(), key).is_lt(),

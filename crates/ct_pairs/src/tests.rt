@@ -18,6 +18,14 @@ fn add(pairs: &mut Pairs, pair: Pair) -> Result<(), NoMemory> {
     pairs.put(pair)
 }
 
+// Puts a pair that is new unless another has its key.
+fn add_alone(pairs: &mut Pairs, pair: Pair) -> Result<bool, NoMemory> {
+    if pairs.contains(&pair) {
+        return Ok(false);
+    }
+    pairs.put_alone(pair)
+}
+
 fn num_of(found: Option<&Pair>) -> Option<u64> {
     found.map(|pair| pair.num())
 }
@@ -52,6 +60,23 @@ fn equal_keys_stand_by_number(rt: HostRuntime) -> Result<(), Fail> {
     assert_eq!(rt; third.num(), 3);
     assert_eq!(rt; num_of(pairs.find(Seek::Next(third))), None);
     assert_eq!(rt; num_of(pairs.find(Seek::Prev(third))), Some(2));
+    Ok(())
+}
+
+#[test]
+fn a_key_is_put_alone(rt: HostRuntime) -> Result<(), Fail> {
+    let mut pairs = Pairs::new(rt.alloc());
+    for (key, num, is_put) in [
+        (b"b".as_slice(), 1, true),
+        (b"c", 2, true),
+        (b"b", 3, false),
+        (b"a", 4, true),
+        (b"c", 5, false),
+    ] {
+        let pair = pair(rt.alloc(), key, num)?;
+        assert_eq!(rt; add_alone(&mut pairs, pair), Ok(is_put));
+    }
+    assert_eq!(rt; pairs.len(), 3);
     Ok(())
 }
 

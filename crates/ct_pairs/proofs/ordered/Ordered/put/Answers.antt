@@ -1,19 +1,8 @@
-use Rattle.std.proofs.Common.{◌∙◌, sym, subst}
+use Rattle.std.proofs.Common.{◌∙◌, subst}
 use Rattle.ct_pairs.proofs.PairLists.{short}
-use Rattle.ct_pairs.proofs.Joined.{IsSound, pushed, put-among, IsSound-pushed, IsSound-inserted}
+use Rattle.ct_pairs.proofs.Joined.{IsSound, put-among, IsSound-inserted}
 use Rattle.ct_pairs.proofs.ordered.Ordered.put.Goals.{in-Ok, in-Err+in-Heap-1, in-Err+in-Inline-1}
 use Rattle.ct_pairs.proofs.ordered.Ordered.put.Goals as goal
-
-pub invariant_of-self : goal.invariant_of-self
-invariant_of-self c =
-    let own = short c.args.pair.num c.num-num.result c.num-num.ensures c.num-num.type_inv in
-    let below = sym c.ends_below.ensures ∙ c.if-ends_below.true in
-    IsSound-pushed c.push.result c.args.pair (c.self.inside).set.keys (c.self.inside).tail.items c.args.self.now _ c.self.view_is c.requires below own c.push.ensures.ok c.push.ensures.err c.self.invariant
-
-pub returns-then-ends_below-clause-ok : goal.returns-then-ends_below-clause-ok
-returns-then-ends_below-clause-ok c =
-    let below = sym c.ends_below.ensures ∙ c.if-ends_below.true in
-    pushed c.push.result c.args.pair (c.self.inside).set.keys (c.self.inside).tail.items c.args.self.now _ c.self.view_is below c.push.ensures.ok
 
 pub invariant_of-self-2 : goal.invariant_of-self-2
 invariant_of-self-2 c =

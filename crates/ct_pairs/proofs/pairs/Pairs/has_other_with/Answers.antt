@@ -24,4 +24,4 @@ returns c =
     ∙ sym (other-second c.args.num c.args.key.now c.args.self.now c.in-Some.first.now c.in-Some-first_from.ensures.ordered c.in-Some.ensures same)
 
 pub returns-then-ends_below : goal.returns-then-ends_below
-returns-then-ends_below c = sym (c.ends_below.ensures c.if-ends_below.true c.args.num)
+returns-then-ends_below c = sym (c.ends_below.ensures.free c.if-ends_below.true c.args.num)
