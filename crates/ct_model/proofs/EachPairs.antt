@@ -177,6 +177,18 @@ put_undone indexes others index row each rest after first put back i e apart put
     let same : back ≡ first = back_is ∙ ap (without_pair_of index row) put_is ∙ put_back index row first here.0 in
     ap (λ (pairs : List Pair). pairs ∷ after) same ∙ ap (λ (ps : List (List Pair)). first ∷ ps) after_is ∙ sym e
 
+pub all_put_back : (indexes : List IndexDef) (row : Row) (each : List (List Pair)) → AreApart indexes row each → without_pairs_of indexes row (with_pairs_of indexes row each) ≡ each
+all_put_back [] row each apart = refl
+all_put_back (index ∷ indexes) row [] apart = refl
+all_put_back (index ∷ indexes) row (pairs ∷ each) apart =
+    ap (λ (first : List Pair). first ∷ without_pairs_of indexes row (with_pairs_of indexes row each)) (put_back index row pairs apart.0)
+    ∙ ap (λ (rest : List (List Pair)). pairs ∷ rest) (all_put_back indexes row each apart.1)
+
+pub all_undone : (indexes : List IndexDef) (num : ℕ) (image again : List ℕ) (each put back : List (List Pair)) → AreApart indexes (record { num = num; image = image }) each → again ≡ image → put ≡ with_pairs_of indexes (record { num = num; image = image }) each → back ≡ without_pairs_of indexes (record { num = num; image = again }) put → back ≡ each
+all_undone indexes num image again each put back apart same put_is back_is =
+    back_is ∙ ap (λ (bytes : List ℕ). without_pairs_of indexes (record { num = num; image = bytes }) put) same
+    ∙ ap (without_pairs_of indexes (record { num = num; image = image })) put_is ∙ all_put_back indexes (record { num = num; image = image }) each apart
+
 pub exchange_undone : (indexes others : List IndexDef) (index : IndexDef) (num : ℕ) (old new : List ℕ) (each rest after : List (List Pair)) (first put back : List Pair) → indexes ≡ index ∷ others → each ≡ first ∷ rest → AreFresh indexes num old new each → has_same_key index old new ≡ false → put ≡ with_pair_of index (record { num = num; image = new }) first → back ≡ without_pair_of index (record { num = num; image = new }) put → after ≡ rest → back ∷ after ≡ each
 exchange_undone indexes others index num old new each rest after first put back i e fresh unlike put_is back_is after_is =
     let here : AreFresh (index ∷ others) num old new (first ∷ rest) = subst (λ (xs : List IndexDef). AreFresh xs num old new (first ∷ rest)) i (subst (λ (ps : List (List Pair)). AreFresh indexes num old new ps) e fresh) in

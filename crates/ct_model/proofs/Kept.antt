@@ -1,7 +1,6 @@
 -- What is kept beside a file stays right through each change of its records.
-use Rattle.std.proofs.Common.{◌≡◌, ℕ, ◌≤◌, ◌^◌, min, Bool, true, ◌&&◌, nat_le, List, [], ◌∷◌, ◌++◌, take, length, get_or, slice_get, None, ◌∙◌, arith, option_map, subst, Option, Some, ap, sym, refl}
+use Rattle.std.proofs.Common.{◌≡◌, ℕ, ◌≤◌, ◌^◌, min, Bool, true, ◌&&◌, nat_le, List, [], ◌∷◌, ◌++◌, take, length, None, ◌∙◌, arith, option_map, subst, Option, Some, ap, sym, refl}
 use Rattle.std.specs.List.{list_all}
-use Rattle.std.proofs.lemmas.Option.{get_or_from_slice_get}
 use Rattle.ct_definitions.specs.declared.store.Row.{Row}
 use Rattle.ct_definitions.specs.declared.store.File.{File}
 use Rattle.ct_definitions.specs.Validity.{is_valid, least_len}
@@ -134,6 +133,12 @@ apart_read file cache num indexes image pairs own each stored free = rw (own, ea
 pub fresh_read : (file : File) (cache : Cache) (num : ℕ) (indexes : List IndexDef) (old image : List ℕ) (pairs : List (List Pair)) → indexes ≡ file.def.indexes → pairs ≡ cache.pairs.items → IsStored file cache → image_at num file.records ≡ Some old → AreFresh indexes num old image pairs
 fresh_read file cache num indexes old image pairs own each stored found = rw (own, each) (rewritten_fresh file cache num old image stored found)
 
+pub taken_read : (file : File) (cache : Cache) (num : ℕ) (indexes : List IndexDef) (image bytes : List ℕ) (pairs : List (List Pair)) (answer : Bool) → indexes ≡ file.def.indexes → bytes ≡ image → pairs ≡ cache.pairs.items → IsStored file cache → is_taken_among indexes num bytes pairs ≡ answer → has_taken_key file num image ≡ answer
+taken_read file cache num indexes image bytes pairs answer own same each stored is =
+    sym (taken_stored file cache num image stored)
+    ∙ sym (ap (λ (xs : List IndexDef). is_taken_among xs num bytes pairs) own ∙ ap (λ (ys : List ℕ). is_taken_among file.def.indexes num ys pairs) same ∙ ap (is_taken_among file.def.indexes num image) each)
+    ∙ is
+
 pub put_read : (indexes own : List IndexDef) (num : ℕ) (bytes image : List ℕ) (pairs each after : List (List Pair)) → indexes ≡ own → bytes ≡ image → pairs ≡ each → after ≡ with_pairs_of indexes (record { num = num; image = bytes }) pairs → after ≡ with_pairs_of own (record { num = num; image = image }) each
 put_read indexes own num bytes image pairs each after i b e is =
     is ∙ ap (λ (xs : List IndexDef). with_pairs_of xs (record { num = num; image = bytes }) pairs) i
@@ -148,11 +153,6 @@ exchange_read indexes own num old bytes image pairs each after i b e is =
     is ∙ ap (λ (xs : List IndexDef). exchanged_pairs xs num old bytes pairs) i
     ∙ ap (λ (ys : List ℕ). exchanged_pairs own num old ys pairs) b
     ∙ ap (exchanged_pairs own num old image) e
-
--- what was put in among the records is read again
-pub image_put : (rows read : List Row) (place : ℕ) (row there : Row) (bytes : List ℕ) → slice_get rows place ≡ Some row → read ≡ rows → there ≡ get_or read place there → bytes ≡ there.image → bytes ≡ row.image
-image_put rows read place row there bytes put same is own =
-    own ∙ ap (λ (r : Row). r.image) (is ∙ ap (λ (rs : List Row). get_or rs place there) same ∙ get_or_from_slice_get rows place row there put)
 
 -- the front of joined lists
 pub take_front : {X : Type 0} (xs ys : List X) (n : ℕ) → length xs ≡ n → take n (xs ++ ys) ≡ xs

@@ -126,13 +126,6 @@ insert_place new (row ∷ rows) free = at_of (λ none. insert_place new rows non
         rw (same, above) (ap (λ xs. row ∷ xs) (placed rest))
     at_of placed false is = let above : nat_lt new.num row.num ≡ true = grind (arith, nat_tests) in rw above refl
 
--- and stands there
-pub read_put : {X : Type 0} (xs : List X) (i : ℕ) (y : X) → i ≤ length xs → slice_get (insert xs i y) i ≡ Some y
-read_put [] zero y there = refl
-read_put [] (suc i) y there = absurd (omega arith)
-read_put (x ∷ xs) zero y there = refl
-read_put (x ∷ xs) (suc i) y there = read_put xs i y (omega arith)
-
 -- what was read at the place is the record
 pub read_own : (num : ℕ) (rows : List Row) (place' : ℕ) (row : Row) → rise_above 0 rows ≡ true → place' ≡ place num rows → Some row ≡ slice_get rows place' → row.num ≡ num → Some row ≡ row_at num rows
 read_own num rows place' row rise at read same =

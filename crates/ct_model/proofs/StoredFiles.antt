@@ -1,7 +1,6 @@
 -- Files with what is kept beside them: what holds of one of them, and what an edit of one leaves.
 use Rattle.std.proofs.Common.{◌≡◌, ℕ, zero, suc, ◌<◌, Result, Ok, Err, OnOk, OnErr, true, List, [], ◌∷◌, ◌++◌, length, get_or, slice_get, slice_set, refl, ap, sym, subst, ◌∙◌, arith, Bool, Option, Some}
 use Rattle.std.proofs.lemmas.List.{set-get_or}
-use Rattle.ct_items.specs.declared.no_memory.NoMemory.{NoMemory}
 use Rattle.ct_definitions.specs.declared.store.Row.{Row}
 use Rattle.ct_definitions.specs.declared.store.File.{File}
 use Rattle.ct_definitions.specs.Room.{has_fitting_len}
@@ -97,11 +96,11 @@ records_read state inside file place now same at within is =
 
 -- ---- an edit that answers whether it was made
 
-pub change_made : (state inside : State) (file place : ℕ) (change : List Row → List Row) (now new : File) (result : Result (Unit {0}) NoMemory) → inside ≡ state → place ≡ file → file < length state → now ≡ get_or inside place now → OnOk result (new ≡ with_records now (change now.records)) → OnOk result (slice_set inside place new ≡ in_file state file change)
+pub change_made : {E : Type 0} (state inside : State) (file place : ℕ) (change : List Row → List Row) (now new : File) (result : Result (Unit {0}) E) → inside ≡ state → place ≡ file → file < length state → now ≡ get_or inside place now → OnOk result (new ≡ with_records now (change now.records)) → OnOk result (slice_set inside place new ≡ in_file state file change)
 change_made state inside file place change now new (Ok done) same at within is ok = edited state inside file place change now new same at within is ok
 change_made state inside file place change now new (Err refusal) same at within is ok = tt
 
-pub change_refused : (state inside : State) (place : ℕ) (now new : File) (result : Result (Unit {0}) NoMemory) → inside ≡ state → now ≡ get_or inside place now → OnErr result (new ≡ now) → OnErr result (slice_set inside place new ≡ state)
+pub change_refused : {E : Type 0} (state inside : State) (place : ℕ) (now new : File) (result : Result (Unit {0}) E) → inside ≡ state → now ≡ get_or inside place now → OnErr result (new ≡ now) → OnErr result (slice_set inside place new ≡ state)
 change_refused state inside place now new (Ok done) same is err = tt
 change_refused state inside place now new (Err refusal) same is err = unedited state inside place now new same is err
 

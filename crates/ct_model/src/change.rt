@@ -114,50 +114,46 @@ pub fn allows(state: &State, change: &Change) -> bool
     }
 }
 
-fn make(alloc: Global, state: &mut State, file: u16, def: FileDef) -> Result<(), NoMemory>
-    requires { allows state.old (Change.Make file def) ≡ true }
+fn make(alloc: Global, state: &mut State, file: u16, def: FileDef) -> Result<(), Refused>
     ensures ok { OnOk result (state.new ≡ changed state.old (Change.Make file def)) }
+    ensures allowed { OnOk result (allows state.old (Change.Make file def) ≡ true) }
+    ensures refused { IsErrOf result Refused.NotDefined → allows state.old (Change.Make file def) ≡ false }
+    ensures memory { IsErrOf result Refused.Memory → allows state.old (Change.Make file def) ≡ true }
     ensures err { OnErr result (state.new ≡ state.old) }
 {
-    state.push_file(alloc, def)
-}
-
-fn add(state: &mut State, file: u16, num: u64, new: Bytes) -> Result<(), NoMemory>
-    requires { allows state.old (Change.Add file num new) ≡ true }
-    ensures ok { OnOk result (state.new ≡ changed state.old (Change.Add file num new)) }
-    ensures err { OnErr result (state.new ≡ state.old) }
-{
-    state.add_row(file, num, new)
-}
-
-fn rewrite(state: &mut State, file: u16, num: u64, old: Bytes, new: Bytes) -> Result<(), NoMemory>
-    requires { allows state.old (Change.Rewrite file num old new) ≡ true }
-    ensures ok { OnOk result (state.new ≡ changed state.old (Change.Rewrite file num old new)) }
-    ensures err { OnErr result (state.new ≡ state.old) }
-{
-    state.rewrite_row(file, num, new)
-}
-
-// makes a change that is defined
-fn perform(alloc: Global, state: &mut State, change: Change) -> Result<(), NoMemory>
-    requires { allows state.old change ≡ true }
-    ensures ok { OnOk result (state.new ≡ changed state.old change) }
-    ensures err { OnErr result (state.new ≡ state.old) }
-{
-    match change {
-        Change::Make { file, def } => make(alloc, state, file, def),
-        Change::Add { file, num, new } => add(state, file, num, new),
-        Change::Rewrite {
-            file,
-            num,
-            old,
-            new,
-        } => rewrite(state, file, num, old, new),
-        Change::Delete { file, num, .. } => {
-            state.delete_row(file, num);
-            Ok(())
-        }
+    if !allows_make(state, file, &def) {
+        return Err(Refused::NotDefined);
     }
+    state.push_file(alloc, def)?;
+    Ok(())
+}
+
+fn rewrite(state: &mut State, file: u16, num: u64, old: Bytes, new: Bytes) -> Result<(), Refused>
+    ensures ok { OnOk result (state.new ≡ changed state.old (Change.Rewrite file num old new)) }
+    ensures allowed { OnOk result (allows state.old (Change.Rewrite file num old new) ≡ true) }
+    ensures refused { IsErrOf result Refused.NotDefined → allows state.old (Change.Rewrite file num old new) ≡ false }
+    ensures memory { IsErrOf result Refused.Memory → allows state.old (Change.Rewrite file num old new) ≡ true }
+    ensures err { OnErr result (state.new ≡ state.old) }
+{
+    if !allows_rewrite(state, file, num, &old, &new) {
+        return Err(Refused::NotDefined);
+    }
+    state.rewrite_row(file, num, new)?;
+    Ok(())
+}
+
+fn delete(state: &mut State, file: u16, num: u64, old: Bytes) -> Result<(), Refused>
+    ensures ok { OnOk result (state.new ≡ changed state.old (Change.Delete file num old)) }
+    ensures allowed { OnOk result (allows state.old (Change.Delete file num old) ≡ true) }
+    ensures refused { IsErrOf result Refused.NotDefined → allows state.old (Change.Delete file num old) ≡ false }
+    ensures memory { IsErrOf result Refused.Memory → allows state.old (Change.Delete file num old) ≡ true }
+    ensures err { OnErr result (state.new ≡ state.old) }
+{
+    if !allows_delete(state, file, num, &old) {
+        return Err(Refused::NotDefined);
+    }
+    state.delete_row(file, num);
+    Ok(())
 }
 
 /// Makes the change, where it is defined on the state. Its new image or definition moves into the state.
@@ -173,11 +169,17 @@ pub fn apply(alloc: Global, state: &mut State, change: Change) -> Result<(), Ref
     ensures memory { IsErrOf result Refused.Memory → allows state.old change ≡ true }
     ensures err { OnErr result (state.new ≡ state.old) }
 {
-    if !allows(state, &change) {
-        return Err(Refused::NotDefined);
+    match change {
+        Change::Make { file, def } => make(alloc, state, file, def),
+        Change::Add { file, num, new } => state.add_row(file, num, new),
+        Change::Rewrite {
+            file,
+            num,
+            old,
+            new,
+        } => rewrite(state, file, num, old, new),
+        Change::Delete { file, num, old } => delete(state, file, num, old),
     }
-    perform(alloc, state, change)?;
-    Ok(())
 }
 
 /// The change that undoes one.

@@ -6,11 +6,13 @@ ghost use Rattle.std.specs.List.{list_all};
 ghost use Rattle.ct_definitions.specs.Room.{has_fitting_len};
 ghost use Rattle.ct_definitions.specs.Changes.{has_taken_key, may_stand};
 ghost use Rattle.ct_model.specs.EachIndex.{is_taken_by, is_taken_among};
-ghost use Rattle.ct_model.specs.Fitting.{reads_keys};
+ghost use Rattle.ct_definitions.specs.Reached.{rise_above};
+ghost use Rattle.ct_model.specs.Fitting.{is_fitting, reads_keys, has_place, has_new_place};
 ghost use Rattle.ct_model.specs.Stored.{IsStored};
 
 use crate::cache::Cache;
 use crate::room::{has_fitting_len, has_room_beside};
+use crate::rows::image_at;
 use crate::validity::longest_len;
 use ct_definitions::{File, IndexDef};
 use ct_key::{KeyBuf, key_of};
@@ -32,8 +34,8 @@ fn is_taken_by(alloc: Global, index: &IndexDef, pairs: &Pairs, num: u64, image: 
     pairs.has_other_with(num, key.as_slice())
 }
 
-// whether that is so in some index
-fn is_taken_among(
+/// Whether a pair of another number has the image's key in some unique index.
+pub(crate) fn is_taken_among(
     alloc: Global,
     indexes: &[IndexDef],
     pairs: &[Pairs],
@@ -68,16 +70,38 @@ pub(crate) fn is_key_taken(
     is_taken_among(alloc, indexes, cache.pairs.as_slice(), num, image)
 }
 
+// whether the image has a length that the file allows, and room beside the other records
+fn has_place(file: &File, num: u64, image: &[u8]) -> bool
+    requires fitting { is_fitting file.now ≡ true }
+    requires rising { rise_above 0 file.now.records ≡ true }
+    ensures { result ≡ has_place file.now num image.now }
+{
+    if !has_fitting_len(file.def.kind, image.len()) {
+        return false;
+    }
+    let longest = longest_len(file.def.kind) as usize;
+    has_room_beside(num, image, longest, file.records.as_slice())
+}
+
+/// Whether the image may stand in the file but for its keys, under a number that no record has.
+pub(crate) fn has_new_place(file: &File, num: u64, image: &[u8]) -> bool
+    requires fitting { is_fitting file.now ≡ true }
+    requires rising { rise_above 0 file.now.records ≡ true }
+    ensures { result ≡ has_new_place file.now num image.now }
+{
+    if num == 0 || image_at(num, file.records.as_slice()).is_some() {
+        return false;
+    }
+    has_place(file, num, image)
+}
+
 /// Whether the image may stand under the number beside the other records of the file.
 pub(crate) fn can_stand(alloc: Global, file: &File, cache: &Cache, num: u64, image: &[u8]) -> bool
     requires { IsStored file.now cache.now }
     ensures { result ≡ may_stand file.now num image.now }
 {
-    if !has_fitting_len(file.def.kind, image.len())
-        || is_key_taken(alloc, file, cache, num, image)
-    {
+    if !has_place(file, num, image) {
         return false;
     }
-    let longest = longest_len(file.def.kind) as usize;
-    has_room_beside(num, image, longest, file.records.as_slice())
+    !is_key_taken(alloc, file, cache, num, image)
 }

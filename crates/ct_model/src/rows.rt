@@ -1,7 +1,7 @@
 //! The records of a file, whose numbers rise: finding them by number and by block, and putting one
 //! in, exchanging and taking out. Each is found by halves, and each edit is one of the definitions.
 
-ghost use Rattle.std.specs.Prelude.{◌≡◌, ◌==◌, ◌≤◌, length, nat_lt, nat_le, filter, slice_get, true, Some, None, IfOk, OnOk, OnErr};
+ghost use Rattle.std.specs.Prelude.{◌≡◌, ◌==◌, ◌≤◌, length, nat_lt, nat_le, filter, slice_get, true, Some, None, IfErr, OnOk, OnErr};
 ghost use Rattle.std.specs.Option.{option_copied, is_some};
 ghost use Rattle.std.specs.List.{prefix_len};
 ghost use Rattle.ct_definitions.specs.Room.{row_at, image_at, is_image, block_of};
@@ -10,7 +10,8 @@ ghost use Rattle.ct_definitions.specs.Reached.{rise_above};
 ghost use Rattle.ct_model.specs.Stored.{own};
 
 use ct_definitions::{Bytes, RECORDS_PER_BLOCK, Row, Rows};
-use ct_items::NoMemory;
+use std::alloc::Global;
+use std::mem;
 
 // whether each record has a lower number, which the last one tells
 fn are_below(num: u64, rows: &[Row]) -> bool
@@ -152,17 +153,22 @@ fn stands_at(place: usize, num: u64, rows: &[Row]) -> bool
     }
 }
 
-/// Puts a record of a number that none has at its place, which it answers.
-pub(crate) fn put_row(rows: &mut Rows, row: Row) -> Result<usize, NoMemory>
+/// Puts a record of a number that none has at its place. Where there is no memory it comes back.
+pub(crate) fn put_row(alloc: Global, rows: &mut Rows, row: Row) -> Result<(), Row>
     requires rising { rise_above 0 rows.old ≡ true }
     requires free { row_at row.num rows.old ≡ None }
     ensures ok { OnOk result (rows.new ≡ with_row row rows.old) }
-    ensures place { IfOk result (λ place. slice_get rows.new place ≡ Some row) }
     ensures err { OnErr result (rows.new ≡ rows.old) }
+    ensures back { IfErr result (λ back. back ≡ row) }
 {
     let place = place_of(row.num, rows.as_slice());
-    rows.insert(place, row)?;
-    Ok(place)
+    let mut items = mem::replace(rows, Rows::new(alloc)).into_vec();
+    let answer = items.insert(place, row);
+    *rows = Rows::from_vec(items);
+    match answer {
+        Ok(()) => Ok(()),
+        Err(refused) => Err(refused.value),
+    }
 }
 
 /// Gives the record of the number another image.

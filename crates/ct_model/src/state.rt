@@ -1,17 +1,17 @@
 //! A store's state: its files, numbered from 0.
 //! Files and indexes are found by their names, the first of a name where there are more.
 
-ghost use Rattle.std.specs.Prelude.{◌≡◌, ◌<◌, ◌≤◌, ◌^◌, ℕ, [], ◌∷◌, ◌++◌, length, slice_get, true, bytes_eq, position, None, IfSome, IfNone, OnOk, OnErr};
+ghost use Rattle.std.specs.Prelude.{◌≡◌, ◌<◌, ◌≤◌, ◌^◌, ℕ, [], ◌∷◌, ◌++◌, length, slice_get, true, false, bytes_eq, position, IfSome, IfNone, IsErrOf, OnOk, OnErr};
 ghost use Rattle.std.specs.Option.{option_copied};
 ghost use Rattle.ct_definitions.specs.Validity.{is_valid};
-ghost use Rattle.ct_definitions.specs.Room.{row_at};
 ghost use Rattle.ct_definitions.specs.Changes.{has_name, has_taken_key, may_stand, passes, in_file, with_row, with_image, without_row};
 ghost use Rattle.ct_definitions.specs.Reached.{rise_above};
-ghost use Rattle.ct_model.specs.Fitting.{is_fitting, are_fitting, takes_len_in};
+ghost use Rattle.ct_model.specs.Fitting.{is_fitting, are_fitting, takes_len_in, may_be_added};
 ghost use Rattle.ct_model.specs.Free.{IsFree, IsNotFree};
 ghost use Rattle.ct_model.specs.Stored.{are_rising, records_at, found_in};
 
 use crate::cache::Cache;
+use crate::change::Refused;
 use crate::keys::{can_stand, is_key_taken};
 use crate::stored::{add_row, delete_row, lowest_free_in_file, new_cache, new_file, rewrite_row};
 use ct_definitions::{Bytes, File, FileDef, LONGEST_IMAGE};
@@ -102,16 +102,18 @@ impl State {
         Ok(())
     }
 
-    /// Puts a record of a free number into a file.
-    pub(crate) fn add_row(&mut self, file: u16, num: u64, image: Bytes) -> Result<(), NoMemory>
-        requires file { file < length self.old }
-        requires len { takes_len_in (slice_get self.old file) (length image) ≡ true }
-        requires num { 1 ≤ num }
-        requires free { row_at num (records_at self.old file) ≡ None }
+    /// Puts a record into a file, where it may stand there under a number that none has.
+    pub(crate) fn add_row(&mut self, file: u16, num: u64, image: Bytes) -> Result<(), Refused>
         ensures ok { OnOk result (self.new ≡ in_file self.old file (with_row (record { num = num; image = image }))) }
+        ensures allowed { OnOk result (passes (slice_get self.old file) (λ f. may_be_added f num image) ≡ true) }
+        ensures refused { IsErrOf result Refused.NotDefined → passes (slice_get self.old file) (λ f. may_be_added f num image) ≡ false }
+        ensures memory { IsErrOf result Refused.Memory → passes (slice_get self.old file) (λ f. may_be_added f num image) ≡ true }
         ensures err { OnErr result (self.new ≡ self.old) }
     {
         let place = usize::from(file);
+        if place >= self.files.len() {
+            return Err(Refused::NotDefined);
+        }
         let alloc = *self.files.allocator();
         add_row(
             alloc,

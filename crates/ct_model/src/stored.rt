@@ -1,16 +1,19 @@
 //! A file with what is kept beside it, through each change of its records.
 //! What holds of both stands in `specs/Stored.antt`.
 
-ghost use Rattle.std.specs.Prelude.{◌≡◌, ◌<◌, ◌≤◌, ℕ, [], length, true, None, IfSome, IfNone, IfOk, OnOk, OnErr, ◌^◌};
+ghost use Rattle.std.specs.Prelude.{◌≡◌, ◌<◌, ◌≤◌, ℕ, [], length, true, false, None, IfSome, IfNone, IfOk, IsErrOf, OnOk, OnErr, ◌^◌};
 ghost use Rattle.ct_definitions.specs.Validity.{is_valid};
 ghost use Rattle.ct_definitions.specs.Room.{has_fitting_len, row_at, block_of};
-ghost use Rattle.ct_definitions.specs.Changes.{with_row, with_image, without_row, with_records};
+ghost use Rattle.ct_definitions.specs.Changes.{with_row, with_image, without_row, with_records, has_taken_key};
+ghost use Rattle.ct_model.specs.Fitting.{may_be_added};
 ghost use Rattle.ct_model.specs.Free.{IsFree, IsNotFree};
 ghost use Rattle.ct_model.specs.EachIndex.{pairs_of_each};
 ghost use Rattle.ct_model.specs.Stored.{IsStored};
 
 use crate::cache::Cache;
-use crate::index_pairs::{exchange_pairs, put_pairs, take_pairs};
+use crate::change::Refused;
+use crate::index_pairs::{exchange_pairs, put_free_pairs, take_pairs};
+use crate::keys::has_new_place;
 use crate::room::{lowest_free_from, open_after};
 use crate::rows::{image_at, put_image, put_row, take_row};
 use crate::validity::least_len;
@@ -53,33 +56,59 @@ pub(crate) fn new_cache(alloc: Global, file: &File) -> Result<Cache, NoMemory>
     })
 }
 
-/// Puts a record of a free number into the file.
+// puts a record of a free number into the file, unless another has a key of it in a unique index
+fn put_record(
+    alloc: Global,
+    file: &mut File,
+    cache: &mut Cache,
+    num: u64,
+    image: Bytes,
+) -> Result<(), Refused>
+    requires stored { IsStored file.old cache.old }
+    requires len { has_fitting_len file.old.def.kind (length image) ≡ true }
+    requires num { 1 ≤ num }
+    requires free { row_at num file.old.records ≡ None }
+    ensures ok { OnOk result (file.new ≡ with_records file.old (with_row (record { num = num; image = image }) file.old.records)) }
+    ensures free { OnOk result (has_taken_key file.old num image ≡ false) }
+    ensures taken { IsErrOf result Refused.NotDefined → has_taken_key file.old num image ≡ true }
+    ensures memory { IsErrOf result Refused.Memory → has_taken_key file.old num image ≡ false }
+    ensures err { OnErr result (file.new ≡ file.old) }
+    ensures stored { IsStored file.new cache.new }
+{
+    let indexes = file.def.indexes.as_slice();
+    let pairs = cache.pairs.as_mut_slice();
+    if let Err(refusal) = put_free_pairs(alloc, pairs, indexes, num, image.as_slice()) {
+        return Err(refusal);
+    }
+    if let Err(row) = put_row(alloc, &mut file.records, Row { num, image }) {
+        take_pairs(alloc, pairs, indexes, num, row.image.as_slice());
+        return Err(Refused::Memory);
+    }
+    let least = least_len(file.def.kind) as usize;
+    cache.full_below = open_after(cache.full_below, num, least, file.records.as_slice());
+    Ok(())
+}
+
+/// Puts a record into the file, where it may stand there under a number that none has.
 pub(crate) fn add_row(
     alloc: Global,
     file: &mut File,
     cache: &mut Cache,
     num: u64,
     image: Bytes,
-) -> Result<(), NoMemory>
-    requires stored { IsStored file.old cache.old }
-    requires len { has_fitting_len file.old.def.kind (length image) ≡ true }
-    requires num { 1 ≤ num }
-    requires free { row_at num file.old.records ≡ None }
+) -> Result<(), Refused>
+    requires { IsStored file.old cache.old }
     ensures ok { OnOk result (file.new ≡ with_records file.old (with_row (record { num = num; image = image }) file.old.records)) }
+    ensures allowed { OnOk result (may_be_added file.old num image ≡ true) }
+    ensures refused { IsErrOf result Refused.NotDefined → may_be_added file.old num image ≡ false }
+    ensures memory { IsErrOf result Refused.Memory → may_be_added file.old num image ≡ true }
     ensures err { OnErr result (file.new ≡ file.old) }
     ensures stored { IsStored file.new cache.new }
 {
-    let place = put_row(&mut file.records, Row { num, image })?;
-    let row = &file.records.as_slice()[place];
-    let indexes = file.def.indexes.as_slice();
-    let pairs = cache.pairs.as_mut_slice();
-    if let Err(refusal) = put_pairs(alloc, pairs, indexes, num, row.image.as_slice()) {
-        take_row(&mut file.records, num);
-        return Err(refusal);
+    if !has_new_place(file, num, image.as_slice()) {
+        return Err(Refused::NotDefined);
     }
-    let least = least_len(file.def.kind) as usize;
-    cache.full_below = open_after(cache.full_below, num, least, file.records.as_slice());
-    Ok(())
+    put_record(alloc, file, cache, num, image)
 }
 
 /// Gives the record of the number in the file another image.

@@ -1,5 +1,5 @@
 use Rattle.std.proofs.Common.{length}
-use Rattle.ct_model.proofs.index_pairs.+put_pairs.Given as goal
+use Rattle.ct_model.proofs.index_pairs.+put_each_free.Given as goal
 
-abbrev pub decreases-put_pairs : goal.decreases-put_pairs
-decreases-put_pairs l = length l.pairs.now
+abbrev pub decreases-put_each_free : goal.decreases-put_each_free
+decreases-put_each_free l = length l.pairs.now

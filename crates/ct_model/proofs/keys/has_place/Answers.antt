@@ -2,7 +2,7 @@ use Rattle.std.proofs.Common.{◌≡◌, nat_le, length, true}
 use Rattle.std.specs.List.{list_all}
 use Rattle.ct_definitions.specs.declared.store.Row.{Row}
 use Rattle.ct_model.proofs.Kept.{none_longer_stored}
-use Rattle.ct_model.proofs.keys.can_stand.Goals as goal
+use Rattle.ct_model.proofs.keys.has_place.Goals as goal
 
 pub has_room_beside-requires-clause-others : goal.has_room_beside-requires-clause-others
 has_room_beside-requires-clause-others c =
