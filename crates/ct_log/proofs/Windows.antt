@@ -1,5 +1,5 @@
 -- What the bytes of a window tell of a log.
-use Rattle.std.proofs.Common.{◌≡◌, ◌+◌, ◌-◌, ◌^◌, ◌≤◌, ℕ, min, List, [], ◌∷◌, ◌++◌, length, take, drop, replicate, sym, ap, ◌∙◌, inl, inr, arith, length-take, length-drop}
+use Rattle.std.proofs.Common.{◌≡◌, ◌+◌, ◌-◌, ◌^◌, ◌≤◌, ℕ, min, List, [], ◌∷◌, ◌++◌, length, get_or, take, drop, replicate, refl, sym, ap, ◌∙◌, inl, inr, arith, length-take, length-drop}
 use Rattle.std.proofs.lemmas.Bool.{cases_lt}
 use Rattle.std.proofs.lemmas.List.{take-append-le, drop-replicate, take_min, take-take, take_all, drop_all, drop-take, drop-drop}
 use Rattle.ct_log.specs.Front.{zeros}
@@ -13,6 +13,15 @@ padded_five b front most is_most is =
     let first : front ≡ take 5 b = is ∙ ap (λ k. take k b) (let same : most ≡ min 5 (length b) = omega arith in same) ∙ take_min 5 b in
     let left : 5 - most ≡ 5 - length b = omega arith in
     ap (λ (l : List ℕ). l ++ drop most (replicate 5 0)) first ∙ ap (λ (l : List ℕ). take 5 b ++ l) (drop-replicate most 5 0 ∙ ap (λ k. replicate k 0) left) ∙ sym (padded 5 5 b (omega arith))
+
+-- the first five of a list that has as many
+pub first_of_five : (b : List ℕ) → 5 ≤ length b → get_or b 0 0 ∷ get_or b 1 0 ∷ get_or b 2 0 ∷ get_or b 3 0 ∷ get_or b 4 0 ∷ [] ≡ take 5 (b ++ zeros 5)
+first_of_five (p ∷ q ∷ r ∷ s ∷ t ∷ b) long = refl
+first_of_five (p ∷ q ∷ r ∷ s ∷ []) long = absurd (omega (arith, long))
+first_of_five (p ∷ q ∷ r ∷ []) long = absurd (omega (arith, long))
+first_of_five (p ∷ q ∷ []) long = absurd (omega (arith, long))
+first_of_five (p ∷ []) long = absurd (omega (arith, long))
+first_of_five [] long = absurd (omega (arith, long))
 
 -- behind the end there are zeros
 pub past_end : (content : List ℕ) (place end size : ℕ) → size ≡ length content → end ≡ min size (2 ^ 62) → end ≤ place → 0 ∷ 0 ∷ 0 ∷ 0 ∷ 0 ∷ [] ≡ take 5 (drop place (log_bytes content) ++ zeros 5)

@@ -6,11 +6,12 @@ ghost use Rattle.ct_log.specs.Chunks.{BeginsWithChunk};
 ghost use Rattle.ct_log.specs.Front.{zeros};
 ghost use Rattle.ct_log.specs.Reading.{IsRead, IsWindow, Covers, TellsPart, found_in, groups_in, log_bytes, seen_from};
 
-use crate::read::{FRAME, LogFault, groups_len, has_open_gate, log_end, read_bytes};
+use crate::read::{FRAME, LogFault, groups_len, has_open_gate, log_end, read_over};
 use crate::window::{Part, Window};
 use ct_disk::{Disk, DiskFault};
 use ct_items::Items;
 use std::alloc::Global;
+use std::mem;
 
 /// How many bytes are read at once, where a chunk does not need more.
 const SPAN: u64 = 1 << 16;
@@ -66,7 +67,7 @@ impl Window {
         self.fill(device, place, len)
     }
 
-    /// Reads bytes of the log in place of those that it has, which it lets go first.
+    /// Reads bytes of the log in place of those that it has, whose memory they take over.
     fn fill<L: Disk>(&mut self, device: &mut L, place: u64, len: u64) -> Result<(), LogFault>
         requires within { place + len ≤ self.old.end }
         requires window { IsWindow L.tells L.content L.size device.old self.old }
@@ -80,8 +81,8 @@ impl Window {
         ensures later { L.faults device.old ≤ L.faults device.new }
         ensures cause { IsErrOf result LogFault.Fault → Rose (L.faults device.old) (L.faults device.new) }
     {
-        self.bytes = Items::new(self.alloc);
-        self.bytes = read_bytes(self.alloc, device, place, len as usize)?;
+        let others = mem::replace(&mut self.bytes, Items::new(self.alloc));
+        self.bytes = read_over(others, device, place, len as usize)?;
         self.place = place;
         Ok(())
     }
@@ -113,6 +114,9 @@ impl Window {
 fn frame_of(bytes: &[u8]) -> [u8; 5]
     ensures { result ≡ take 5 (bytes.now ++ zeros 5) }
 {
+    if 5 <= bytes.len() {
+        return [bytes[0], bytes[1], bytes[2], bytes[3], bytes[4]];
+    }
     let mut frame = [0; 5];
     let most = bytes.len().min(5);
     frame[..most].copy_from_slice(&bytes[..most]);

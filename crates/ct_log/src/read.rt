@@ -100,7 +100,7 @@ pub fn read_chunk<L: Disk>(
     if log_end(device)? < next {
         return Err(LogFault::Bad { at: place });
     }
-    let groups = read_bytes(alloc, device, place + FRAME, len as usize)?;
+    let groups = read_over(Items::new(alloc), device, place + FRAME, len as usize)?;
     Ok(Some(Chunk { groups, next }))
 }
 
@@ -146,9 +146,9 @@ pub(crate) fn log_end<L: Disk>(device: &mut L) -> Result<u64, DiskFault>
     Ok(len.min(LAST_END))
 }
 
-/// Reads bytes that the device has.
-pub(crate) fn read_bytes<L: Disk>(
-    alloc: Global,
+/// Reads bytes that the device has in place of others, whose memory they take over.
+pub(crate) fn read_over<L: Disk>(
+    others: Items<u8>,
     device: &mut L,
     place: u64,
     len: usize,
@@ -163,7 +163,8 @@ pub(crate) fn read_bytes<L: Disk>(
     ensures later { L.faults device.old ≤ L.faults device.new }
     ensures cause { IsErrOf result LogFault.Fault → Rose (L.faults device.old) (L.faults device.new) }
 {
-    let mut bytes = Vec::from_elem(alloc, 0, len)?;
+    let mut bytes = others.into_vec();
+    bytes.resize(len, 0)?;
     device.read(place, bytes.as_mut_slice())?;
     Ok(Items::from_vec(bytes))
 }

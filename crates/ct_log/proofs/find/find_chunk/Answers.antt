@@ -1,4 +1,4 @@
-use Rattle.std.proofs.Common.{◌≡◌, ◌+◌, ◌-◌, ◌^◌, ◌<◌, ◌≤◌, List, ℕ, length, take, drop, ap, sym, ◌∙◌, refl, arith, rules}
+use Rattle.std.proofs.Common.{◌≡◌, ◌+◌, ◌-◌, ◌<◌, ◌≤◌, List, ℕ, length, take, drop, ap, ◌∙◌, refl, arith, rules}
 use Rattle.ct_log.specs.Reading.{log_bytes, chunk}
 use Rattle.ct_log.proofs.ChunkReads.{damage_found, chunk_found, chunk_begins, length-log_from}
 use Rattle.ct_log.proofs.Windows.{groups_seen, length-groups_seen}

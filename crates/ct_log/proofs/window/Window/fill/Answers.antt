@@ -5,6 +5,6 @@ use Rattle.ct_log.proofs.window.Window.fill.Goals as goal
 pub returns-clause-window : goal.returns-clause-window
 returns-clause-window g c = record {
   end = c.requires.window.end ∙ ap (λ n. min n (2 ^ 62)) (sym c.in_ok-self.ensures.size);
-  bytes = λ tells. filled (g.L.Disk.content c.args.device.now) (g.L.Disk.content c.read_bytes.new.device) c.in_ok-self.field-0 c.args.place c.args.len (c.in_ok-self.ensures.read tells).same
+  bytes = λ tells. filled (g.L.Disk.content c.args.device.now) (g.L.Disk.content c.read_over.new.device) c.in_ok-self.field-0 c.args.place c.args.len (c.in_ok-self.ensures.read tells).same
       (omega (arith, c.requires.within, c.args.self.now.last)) c.in_ok-self.ensures.len (c.in_ok-self.ensures.bytes tells);
 }
