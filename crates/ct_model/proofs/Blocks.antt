@@ -78,6 +78,31 @@ room_for_few num longest most image rows short own stored is few =
     more : (count width : ℕ) → suc count * width ≡ width + count * width
     more count width = omega arith
 
+-- a block has no more records than numbers
+pub few_rows : (block last : ℕ) (rows : List Row) → rise_above last rows ≡ true → length (rows_of block rows) ≤ min 128 (block * 128 + 127 - last)
+few_rows block last [] rise = omega arith
+few_rows block last (row ∷ rows) rise =
+    by_test (grind (arith, nat_tests)) (few_rows block row.num rows (grind arith)) (block_of row.num == block) refl
+  where
+    by_test : last < row.num → length (rows_of block rows) ≤ min 128 (block * 128 + 127 - row.num) → (here : Bool) → (block_of row.num == block) ≡ here
+        → length (rows_of block (row ∷ rows)) ≤ min 128 (block * 128 + 127 - last)
+    by_test above rest true is =
+        let own : block_of row.num ≡ block = grind (arith, nat_tests) in
+        let more : length (rows_of block (row ∷ rows)) ≡ suc (length (rows_of block rows)) = grind arith in
+        rw more (omega (arith, own, above, rest))
+    by_test above rest false is =
+        let same : length (rows_of block (row ∷ rows)) ≡ length (rows_of block rows) = grind arith in
+        rw same (omega (arith, above, rest))
+
+-- so there is always room for a short image
+pub room_for_short : (num longest : ℕ) (image : List ℕ) (rows : List Row) → rise_above 0 rows ≡ true → list_all (λ row. nat_le (length row.image) longest) rows ≡ true → length image ≤ longest → longest ≤ 22 → true ≡ has_room num image rows
+room_for_short num longest image rows rise short own few =
+    let used : sum_by (use_beside num) rows ≤ length (rows_of (block_of num) rows) * (longest + 8) = use_at_most num longest rows short in
+    let count : length (rows_of (block_of num) rows) ≤ 128 = omega (arith, few_rows (block_of num) 0 rows rise) in
+    let more : length (rows_of (block_of num) rows) * (longest + 8) ≤ 128 * (longest + 8) = mul-le-mul_right (longest + 8) count in
+    let fits : length image + 8 + sum_by (use_beside num) rows ≤ 3968 = omega (arith, used, more, own, few) in
+    grind (arith, nat_tests)
+
 -- ---- the numbers that a block's records have
 
 -- whether numbers rise from one on

@@ -13,6 +13,9 @@ use ct_definitions::{BLOCK_ROOM, Kind, LONGEST_IMAGE, RECORD_OVERHEAD, RECORDS_P
 // how many blocks the numbers below 2^64 are in
 const BLOCKS: u64 = 1 << 57;
 
+// how long an image is at most of which a block has room for more than it has numbers
+const SHORT_IMAGE: usize = 22;
+
 /// Whether an image of `len` bytes may stand in a file of the kind.
 pub fn has_fitting_len(kind: Kind, len: usize) -> bool
     ensures { result ≡ has_fitting_len kind len }
@@ -60,7 +63,7 @@ pub fn has_room(num: u64, image: &[u8], rows: &[Row]) -> bool
 }
 
 /// `has_room` in a file with no image of more than `longest` bytes. What the records use is added up only
-/// where there may be too many of them.
+/// where there may be too many of them, and short images always have room.
 pub(crate) fn has_room_beside(num: u64, image: &[u8], longest: usize, rows: &[Row]) -> bool
     requires rising { rise_above 0 rows.now ≡ true }
     requires short { longest ≤ LONGEST_IMAGE }
@@ -68,6 +71,9 @@ pub(crate) fn has_room_beside(num: u64, image: &[u8], longest: usize, rows: &[Ro
     requires others { list_all (λ row. nat_le (length row.image) longest) rows.now ≡ true }
     ensures { result ≡ has_room num image.now rows.now }
 {
+    if longest <= SHORT_IMAGE {
+        return true;
+    }
     let most = BLOCK_ROOM / (longest as u64 + RECORD_OVERHEAD) - 1;
     if has_few(num / RECORDS_PER_BLOCK, most as usize, rows) {
         return true;
