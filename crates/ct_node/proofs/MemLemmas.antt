@@ -1,5 +1,5 @@
 -- Edits of pages in memory are those of their world.
-use Rattle.std.proofs.Common.{◌≡◌, ℕ, zero, suc, List, [], ◌∷◌, map, set, get_or, filter, not, Bool, Some, None, refl, sym, ap, ◌∙◌}
+use Rattle.std.proofs.Common.{◌≡◌, ℕ, zero, suc, List, [], ◌∷◌, map, set, get_or, filter, not, Bool, false, Some, None, refl, sym, ap, ◌∙◌}
 use Rattle.std.proofs.lemmas.List.{map-set}
 use Rattle.ct_latch.specs.declared.hold.Hold.{Hold}
 use Rattle.ct_node.specs.declared.mem_nodes.MemPage.{MemPage}
@@ -9,7 +9,7 @@ use Rattle.ct_node.specs.declared.root.Root.{Root}
 use Rattle.ct_node.specs.declared.root.IndexRow.{IndexRow}
 use Rattle.ct_node.specs.Nodes.{NodeValue}
 use Rattle.ct_node.specs.Worlds.{World, PageValue, Blank, Defines, Holds, is_owner, edited, rooted, rooted_page, row_in}
-use Rattle.ct_node.specs.MemWorlds.{page_value}
+use Rattle.ct_node.specs.MemWorlds.{page_value, damaged}
 
 -- the world of these pages
 abbrev pub made : List PageValue → List Hold → List Owner → Bool → World
@@ -19,6 +19,10 @@ pub edited_world : (pages : List MemPage) (holds : List Hold) (fresh other : Lis
 edited_world pages holds fresh other founded op page right copy node is_copy is_right is_other =
     ap (λ list. made list holds other founded) (map-set page_value pages page (Tree copy) ∙ ap (λ v. set (map page_value pages) page (Holds v)) is_copy)
     ∙ ap (λ list. made (set (map page_value pages) page (Holds node)) holds list founded) (is_other ∙ ap (λ r. filter (λ owner. not (is_owner op r owner)) fresh) is_right)
+
+pub damaged_world : (pages : List MemPage) (holds : List Hold) (fresh : List Owner) (founded : Bool) (page : ℕ) (copy node : NodeValue) → copy ≡ node → made (map page_value (set pages page (Tree copy))) holds fresh false ≡ damaged page node (made (map page_value pages) holds fresh founded)
+damaged_world pages holds fresh founded page copy node is_copy =
+    ap (λ list. made list holds fresh false) (map-set page_value pages page (Tree copy) ∙ ap (λ v. set (map page_value pages) page (Holds v)) is_copy)
 
 pub get_or-pages : (pages : List MemPage) (page : ℕ) → get_or (map page_value pages) page Blank ≡ page_value (get_or pages page Unwritten)
 get_or-pages [] page = refl

@@ -5,6 +5,7 @@ use Rattle.ct_disk.specs.declared.turn.Turn.TheVariants.{Done, More, Busy, Refus
 use Rattle.ct_disk.specs.declared.turn.StepFault.{StepFault}
 use Rattle.ct_disk.specs.declared.turn.StepFault.TheVariants.{Read, Halted, Memory}
 use Rattle.ct_disk.specs.declared.turn.HaltCause.{HaltCause}
+use Rattle.ct_disk.specs.declared.turn.HaltCause.TheVariants.{BadPage}
 use Rattle.ct_disk.specs.Disk.{Rose}
 use Rattle.ct_latch.specs.declared.hold.Hold.{Hold}
 use Rattle.ct_node.specs.declared.root.Mark.{Mark}
@@ -43,6 +44,11 @@ abbrev pub Caused : StepFault → ℕ → ℕ → Option HaltCause → Option Ha
 Caused Read before now halted halts = Rose before now × (halts ≡ halted)
 Caused (Halted cause) before now halted halts = halts ≡ Some cause
 Caused Memory before now halted halts = (now ≡ before) × (halts ≡ halted)
+
+-- the cause of a halt for a page: that of an earlier halt is kept
+abbrev pub kept_cause : Option HaltCause → ℕ → HaltCause
+kept_cause None page = BadPage page
+kept_cause (Some cause) page = cause
 
 -- the faults and the halt after a call: as they were, but where it is refused
 abbrev pub CausedTurn : {T : Type 0} → Turn T → ℕ → ℕ → Option HaltCause → Option HaltCause → Type 0

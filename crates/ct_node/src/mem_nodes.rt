@@ -1,9 +1,11 @@
 //! Pages in memory, with real latches. Their faults come by a list of calls alone.
 
-ghost use Rattle.std.specs.Prelude.{◌≡◌, ℕ, ◌≤◌, ◌==◌, ◌&&◌, ◌∷◌, ◌+◌, not, true, false, MatchOption, IfOk, IfSome, filter, vec_len, vec_capacity};
+ghost use Rattle.std.specs.Prelude.{◌≡◌, ℕ, ◌≤◌, ◌==◌, ◌&&◌, ◌∷◌, ◌++◌, [], ◌+◌, not, true, false, MatchOption, IfOk, IfSome, filter, vec_len, vec_capacity};
 ghost use Rattle.ct_node.specs.Worlds.{Holds, page_at, row_in, is_owner};
-ghost use Rattle.ct_node.specs.Turns.{Caused};
-ghost use Rattle.ct_node.specs.MemWorlds.{world_of, new_world};
+ghost use Rattle.ct_node.specs.Turns.{Caused, kept_cause};
+ghost use Rattle.ct_node.specs.Nodes.{NodeValue};
+ghost use Rattle.ct_disk.specs.declared.turn.StepFault.{StepFault};
+ghost use Rattle.ct_node.specs.MemWorlds.{world_of, new_world, damaged, failing_of, counts_of, refusal_of};
 
 use crate::node::Node;
 use crate::nodes::Nodes;
@@ -65,16 +67,20 @@ impl MemNodes {
 
     /// Makes the call with this number fail. Calls count from 1.
     pub fn fail_at(&mut self, call: u64) -> Result<(), NoMemory>
-        ensures { world_of self.new ≡ world_of self.old }
+        ensures plan { IfOk result (λ _. failing_of self.new ≡ failing_of self.old ++ call ∷ []) }
+        ensures world { world_of self.new ≡ world_of self.old }
+        ensures counts { counts_of self.new ≡ counts_of self.old }
     {
         self.failing.push(call)?;
         Ok(())
     }
 
-    /// Writes any node into a page, as damage to a device may. From then on the pages are not those
-    /// that operations alone made.
+    /// Writes any node into a page, where there is that page, as damage to a device may. From then on
+    /// the pages are not those that operations alone made.
     pub fn damage(&mut self, page: u64, node: &Node)
-        ensures { (world_of self.new).founded ≡ false }
+        ensures world { world_of self.new ≡ damaged page node.now (world_of self.old) }
+        ensures plan { failing_of self.new ≡ failing_of self.old }
+        ensures counts { counts_of self.new ≡ counts_of self.old }
     {
         self.founded = false;
         if page < self.pages.len() as u64 {
@@ -84,8 +90,11 @@ impl MemNodes {
         }
     }
 
-    /// Why a call is refused, if it is.
+    /// Why a call is refused, if it is: after a halt each is, and else one whose number is among those
+    /// that are to fail.
     fn refusal(&mut self) -> Option<StepFault>
+        ensures is { result ≡ refusal_of self.old }
+        ensures plan { failing_of self.new ≡ failing_of self.old }
         ensures world { world_of self.new ≡ world_of self.old }
         ensures last { self.new.last ≡ self.old.last }
         ensures cause { MatchOption result ((self.new.faults ≡ self.old.faults) × (self.new.halted ≡ self.old.halted)) (λ fault. Caused fault self.old.faults self.new.faults self.old.halted self.new.halted) }
@@ -103,6 +112,8 @@ impl MemNodes {
 
     /// Halts for a page, unless it has halted already.
     fn halt(&mut self, page: u64) -> StepFault
+        ensures is { result ≡ StepFault.Halted (kept_cause self.old.halted page) }
+        ensures faults { self.new.faults ≡ self.old.faults }
         ensures world { world_of self.new ≡ world_of self.old }
         ensures last { self.new.last ≡ self.old.last }
         ensures cause { Caused result self.old.faults self.new.faults self.old.halted self.new.halted }
@@ -116,7 +127,7 @@ impl MemNodes {
 
     /// The node of a page.
     fn node_at(&self, page: u64) -> Option<&Node>
-        ensures { IfSome result (λ node. page_at (world_of self.now) page ≡ Holds node.now) }
+        ensures { MatchOption result ((node : NodeValue) → page_at (world_of self.now) page ≡ Holds node → ⊥) (λ node. page_at (world_of self.now) page ≡ Holds node.now) }
     {
         match self.pages.get(page as usize) {
             Some(MemPage::Tree(node)) => Some(node),
@@ -163,7 +174,9 @@ fn put_first(fresh: &mut Vec<Owner>, owner: Owner)
 }
 
 impl Nodes for MemNodes {
-    ghost use Rattle.std.specs.Prelude.{None};
+    ghost use Rattle.std.specs.Prelude.{◌≡◌, None};
+    ghost use Rattle.ct_node.specs.Nodes.{NodeValue};
+    ghost use Rattle.ct_node.specs.Worlds.{Holds, page_at};
     ghost use Rattle.ct_node.specs.MemWorlds.{world_of};
 
     ghost world = { world_of };
@@ -180,24 +193,29 @@ impl Nodes for MemNodes {
 
     ghost allows_none = { λ nodes op. tt };
 
+    ghost shows = { λ nodes page. (node : NodeValue) × (page_at (world_of nodes) page ≡ Holds node) };
+
     ghost left = { λ nodes. 0 };
 
     fn pages(&self) -> u64 {
         self.pages.len() as u64
     }
 
-    fn look(&mut self, _op: u64, page: u64, into: &mut Node) -> Turn<()> {
+    fn look(&mut self, _op: u64, page: u64) -> Turn<()> {
         if let Some(fault) = self.refusal() {
             return Turn::Refused(fault);
         }
-        match self.node_at(page) {
-            Some(node) => {
-                node.copy_into(into);
-                return Turn::Done(());
-            }
-            None => {}
+        if self.node_at(page).is_some() {
+            return Turn::Done(());
         }
         Turn::Refused(self.halt(page))
+    }
+
+    fn node(&self, page: u64) -> &Node {
+        match self.node_at(page) {
+            Some(node) => node,
+            None => unreachable!(),
+        }
     }
 
     fn edit(&mut self, op: u64, page: u64, node: &Node, mark: Mark) -> Turn<()> {

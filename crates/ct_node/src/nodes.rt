@@ -6,14 +6,14 @@ ghost use Rattle.ct_disk.specs.declared.turn.HaltCause.{HaltCause};
 ghost use Rattle.ct_disk.specs.declared.turn.StepFault.{StepFault};
 ghost use Rattle.ct_node.specs.declared.root.Mark.{Mark};
 ghost use Rattle.ct_node.specs.Worlds.{World, Holds, page_at, has_own, with_fresh, with_holds, edited, rooted, row_in, Move, RaisesRoot, IsTidy, no_mark};
-ghost use Rattle.ct_node.specs.Turns.{OnDone, OnBusy, After, LatchedBy, Bears, Caused, CausedTurn, LeavesLess};
+ghost use Rattle.ct_node.specs.Turns.{OnDone, OnBusy, After, LatchedBy, Bears, Caused, CausedTurn, LeavesLess, kept_cause};
 
 use crate::node::Node;
 use crate::root::{Mark, Root};
 use ct_disk::{StepFault, Turn};
 
-/// The pages of indexes, which operations visit in turns. Each call but `free`, `free_all` and
-/// `bad` is one step of a turn. A call that is not done leaves the pages and the latches as they
+/// The pages of indexes, which operations visit in turns. Each call but `node`, `free`, `free_all`
+/// and `bad` is one step of a turn. A call that is not done leaves the pages and the latches as they
 /// were; `More` says that it is to be made again, and that less work of the pages' own is left.
 pub trait Nodes {
     /// The pages, the latches and the pages that no link reaches yet.
@@ -34,6 +34,9 @@ pub trait Nodes {
     /// The mark that the last edit bore.
     ghost marked: { Self → Mark };
 
+    /// Whether the node of a page is at hand, to be read where it stands.
+    ghost shows: { Self → ℕ → Type 0 };
+
     /// How much work of their own the pages have, at most, before they do what they are asked for.
     ghost left: { Self → ℕ };
 
@@ -41,9 +44,9 @@ pub trait Nodes {
     fn pages(&self) -> u64
         ensures { result ≡ length (world self.now).pages };
 
-    /// Copies the node of a page.
-    fn look(&mut self, op: u64, page: u64, into: &mut Node) -> Turn<()>
-        ensures seen { OnDone result (λ _. page_at (world self.old) page ≡ Holds into.new) }
+    /// Looks at a page: its node is at hand afterwards.
+    fn look(&mut self, op: u64, page: u64) -> Turn<()>
+        ensures shown { OnDone result (λ _. shows self.new page) }
         ensures marked { marked self.new ≡ marked self.old }
         ensures world { world self.new ≡ world self.old }
         ensures busy { OnBusy result (λ other. flushes self.old ≡ Some other) }
@@ -51,6 +54,11 @@ pub trait Nodes {
         ensures marks { (mark : Mark) → allows self.old op mark → allows self.new op mark }
         ensures left { LeavesLess result (left self.old) (left self.new) }
         ensures cause { CausedTurn result (faults self.old) (faults self.new) (halted self.old) (halted self.new) };
+
+    /// The node of a page that was looked at, where it stands.
+    fn node(&self, page: u64) -> &Node
+        requires { shows self.now page }
+        ensures { page_at (world self.now) page ≡ Holds result.now };
 
     /// Writes a node into a page.
     fn edit(&mut self, op: u64, page: u64, node: &Node, mark: Mark) -> Turn<()>
@@ -127,6 +135,8 @@ pub trait Nodes {
         requires { (world self.old).founded ≡ false }
         ensures marked { marked self.new ≡ marked self.old }
         ensures world { world self.new ≡ world self.old }
+        ensures is { result ≡ StepFault.Halted (kept_cause (halted self.old) page) }
+        ensures faults { faults self.new ≡ faults self.old }
         ensures cause { Caused result (faults self.old) (faults self.new) (halted self.old) (halted self.new) };
 
     /// An edit may always be no step of a transaction.

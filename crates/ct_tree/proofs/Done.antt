@@ -22,16 +22,6 @@ use Rattle.ct_node.specs.declared.target.Target.{Target}
 use Rattle.ct_tree.specs.declared.seek.Seek.{Seek}
 use Rattle.ct_tree.specs.declared.seek.Seek.TheVariants.{AtOrAbove, Above, AtOrBelow, Below}
 
--- the left side of an equation
-abbrev pub left_side : {X : Type 0} {a b : X} → a ≡ b → X
-left_side {a = a} is = a
-
-pub when_done : (turn : Turn (Unit {0})) (P : Unit {0} → Type 0) → is_done turn ≡ true → OnDone turn P → P tt
-when_done (Done answer) P done is = is
-when_done More P done is = absurd (false≢true done)
-when_done (Busy op) P done is = absurd (false≢true done)
-when_done (Refused fault) P done is = absurd (false≢true done)
-
 pub after_done : (turn : Turn (Unit {0})) (changed : Unit {0} → World) (w now : World) → is_done turn ≡ true → After turn changed w now → now ≡ changed tt
 after_done (Done answer) changed w now done is = is
 after_done More changed w now done is = absurd (false≢true done)
@@ -76,12 +66,6 @@ goes_going (Done answer) to going is = absurd (true≢false going)
 goes_going More to going is = is
 goes_going (Busy op) to going is = is
 goes_going (Refused fault) to going is = is
-
-pub caused_done : (turn : Turn (Unit {0})) (before after : ℕ) (halted halts : Option HaltCause) → is_done turn ≡ true → CausedTurn turn before after halted halts → (after ≡ before) × (halts ≡ halted)
-caused_done (Done answer) before after halted halts done is = is
-caused_done More before after halted halts done is = absurd (false≢true done)
-caused_done (Busy op) before after halted halts done is = absurd (false≢true done)
-caused_done (Refused fault) before after halted halts done is = absurd (false≢true done)
 
 -- what is known of a turn, once its answer tells more
 pub caused_with : {T : Type 0} (turn : Turn (Unit {0})) (told : T) (before after : ℕ) (halted halts : Option HaltCause) → CausedTurn turn before after halted halts → CausedTurn (answer_with turn told) before after halted halts

@@ -1,5 +1,5 @@
 -- A turn that answers More waits for the pages or goes on, by what its calls have told.
-use Rattle.std.proofs.Common.{◌≡◌, ℕ, ◌+◌, ◌<◌, ◌≤◌, ◌&&◌, eqb, List, [], ◌∷◌, length, cond, Bool, true, false, not, nat_lt, Option, Some, None, is_some, refl, sym, ap, ◌∙◌, arith, subst, inl, inr, ⊎_elim, ◌⊎◌}
+use Rattle.std.proofs.Common.{◌≡◌, ℕ, ◌+◌, ◌<◌, ◌&&◌, eqb, List, [], ◌∷◌, length, cond, Bool, true, false, not, nat_lt, Option, Some, None, is_some, refl, sym, ap, ◌∙◌, arith, subst, inl, inr, ⊎_elim, ◌⊎◌}
 use Rattle.std.specs.Prelude.{slice_set}
 use Rattle.std.proofs.lemmas.Bool.{false≢true, eqb-false, ltb-false, lt-ltb, not-true, and_parts}
 use Rattle.ct_disk.specs.declared.turn.Turn.{Turn}
@@ -22,15 +22,8 @@ use Rattle.ct_definitions.specs.Pairs.{Pair}
 use Rattle.ct_node.specs.declared.target.Target.TheVariants.{At}
 use Rattle.ct_node.specs.Roles.{begins_at_low}
 use Rattle.ct_tree.specs.Answers.{is_done, is_above_for, answer_with}
-use Rattle.ct_tree.specs.Rules.{Visits, Goes, Waits, IsOneTurn, IsTurned, IsNext, is_full, Writes, NamesRoot, Posts, leaves_room, GivesWay, leads_to}
+use Rattle.ct_tree.specs.Rules.{Visits, IsOneTurn, IsTurned, IsNext, is_full, Writes, NamesRoot, Posts, leaves_room, GivesWay, leads_to}
 use Rattle.ct_tree.proofs.Done.{after_done}
-
--- a call that was done leaves no more of the pages' work
-pub no_more : (turn : Turn (Unit {0})) (before after : ℕ) → is_done turn ≡ true → LeavesLess turn before after → after ≤ before
-no_more (Done answer) before after done most = most
-no_more More before after done less = absurd (false≢true done)
-no_more (Busy op) before after done most = absurd (false≢true done)
-no_more (Refused fault) before after done most = absurd (false≢true done)
 
 -- the first call of a turn was not done
 pub waits_first : (turn : Turn (Unit {0})) (walk : Walk) (w now : World) (before after : ℕ) (at : Stage) → is_done turn ≡ false → now ≡ w → LeavesLess turn before after → IsTurned turn walk w now before after at at
@@ -38,19 +31,6 @@ waits_first (Done answer) walk w now before after at other same less = inl refl
 waits_first More walk w now before after at other same less = inl (record { same = refl; world = same; less = less })
 waits_first (Busy op) walk w now before after at other same less = inl refl
 waits_first (Refused fault) walk w now before after at other same less = refl
-
--- a turn after a look that was done is one turn with it
-pub after_look : (turn : Turn (Unit {0})) (walk : Walk) (w mid now : World) (before middle after : ℕ) (from to : Stage) → mid ≡ w → middle ≤ before → IsTurned turn walk mid now middle after from to → IsTurned turn walk w now before after from to
-after_look (Done answer) walk w mid now before middle after from to same most is = is
-after_look More walk w mid now before middle after from to same most is =
-    ⊎_elim (λ (waits : Waits mid now middle after from to). inl (record { same = waits.same; world = waits.world ∙ same; less = (let less = waits.less in omega arith) }))
-    (λ goes. inr (subst (λ (v : World). Goes walk v now from to) same goes)) is
-after_look (Busy op) walk w mid now before middle after from to same most is = is
-after_look (Refused fault) walk w mid now before middle after from to same most is = is
-
--- the second call of a turn was not done
-pub waits_second : (turn : Turn (Unit {0})) (walk : Walk) (w mid now : World) (before middle after : ℕ) (at : Stage) → is_done turn ≡ false → mid ≡ w → now ≡ mid → middle ≤ before → LeavesLess turn middle after → IsTurned turn walk w now before after at at
-waits_second turn walk w mid now before middle after at other same also most less = after_look turn walk w mid now before middle after at at same most (waits_first turn walk mid now middle after at other also less)
 
 -- what is told beside an answer
 pub rule_with : {T : Type 0} (turn : Turn (Unit {0})) (told : T) (walk : Walk) (w now : World) (before after : ℕ) (from to : Stage) → IsTurned turn walk w now before after from to → IsTurned (answer_with turn told) walk w now before after from to

@@ -33,21 +33,11 @@ pub(crate) fn own_definition<N: Nodes>(
 {
     let owned = nodes.own(walk.op, walk.at.page);
     if !is_done(&owned) {
-        return (
-            Stage::Post {
-                separator,
-                rise: Rise::Again,
-            },
-            owned,
-        );
+        let rise = Rise::Again;
+        return (Stage::Post { separator, rise }, owned);
     }
-    (
-        Stage::Post {
-            separator,
-            rise: Rise::Named,
-        },
-        Turn::More,
-    )
+    let rise = Rise::Named;
+    (Stage::Post { separator, rise }, Turn::More)
 }
 
 /// Reads the root again. Where it is another one by now, the definition page is given back, and
@@ -70,44 +60,25 @@ pub(crate) fn name_again<N: Nodes>(
     match nodes.root(walk.op, walk.at) {
         Turn::Done(page) => {
             if page == separator.left {
-                return (
-                    Stage::Post {
-                        separator,
-                        rise: Rise::Grow,
-                    },
-                    Turn::More,
-                );
+                let rise = Rise::Grow;
+                return (Stage::Post { separator, rise }, Turn::More);
             }
             nodes.free(walk.op, walk.at.page);
-            return (
-                Stage::Post {
-                    separator,
-                    rise: Rise::Down { page, above: None },
-                },
-                Turn::More,
-            );
+            let rise = Rise::Down { page, above: None };
+            return (Stage::Post { separator, rise }, Turn::More);
         }
-        Turn::More => return (
-            Stage::Post {
-                separator,
-                rise: Rise::Named,
-            },
-            Turn::More,
-        ),
-        Turn::Busy { op } => return (
-            Stage::Post {
-                separator,
-                rise: Rise::Named,
-            },
-            Turn::Busy { op },
-        ),
-        Turn::Refused(fault) => return (
-            Stage::Post {
-                separator,
-                rise: Rise::Named,
-            },
-            Turn::Refused(fault),
-        ),
+        Turn::More => {
+            let rise = Rise::Named;
+            return (Stage::Post { separator, rise }, Turn::More);
+        }
+        Turn::Busy { op } => {
+            let rise = Rise::Named;
+            return (Stage::Post { separator, rise }, Turn::Busy { op });
+        }
+        Turn::Refused(fault) => {
+            let rise = Rise::Named;
+            return (Stage::Post { separator, rise }, Turn::Refused(fault));
+        }
     }
 }
 
@@ -128,34 +99,22 @@ pub(crate) fn allocate_root<N: Nodes>(
     ensures cause { CausedTurn result.1 (N.faults nodes.old) (N.faults nodes.new) (N.halted nodes.old) (N.halted nodes.new) }
 {
     match nodes.fresh(walk.op) {
-        Turn::Done(root) => return (
-            Stage::Post {
-                separator,
-                rise: Rise::Crown { root },
-            },
-            Turn::More,
-        ),
-        Turn::More => return (
-            Stage::Post {
-                separator,
-                rise: Rise::Grow,
-            },
-            Turn::More,
-        ),
-        Turn::Busy { op } => return (
-            Stage::Post {
-                separator,
-                rise: Rise::Grow,
-            },
-            Turn::Busy { op },
-        ),
-        Turn::Refused(fault) => return (
-            Stage::Post {
-                separator,
-                rise: Rise::Grow,
-            },
-            Turn::Refused(fault),
-        ),
+        Turn::Done(root) => {
+            let rise = Rise::Crown { root };
+            return (Stage::Post { separator, rise }, Turn::More);
+        }
+        Turn::More => {
+            let rise = Rise::Grow;
+            return (Stage::Post { separator, rise }, Turn::More);
+        }
+        Turn::Busy { op } => {
+            let rise = Rise::Grow;
+            return (Stage::Post { separator, rise }, Turn::Busy { op });
+        }
+        Turn::Refused(fault) => {
+            let rise = Rise::Grow;
+            return (Stage::Post { separator, rise }, Turn::Refused(fault));
+        }
     }
 }
 
@@ -168,7 +127,8 @@ pub(crate) fn write_root<N: Nodes>(
     separator: Separator,
     root: u64,
 ) -> (Stage, Turn<()>)
-    requires { Stands walk.now (Stage.Post separator (Rise.Crown root)) (N.world nodes.old) }
+    requires stands { Stands walk.now (Stage.Post separator (Rise.Crown root)) (N.world nodes.old) }
+    requires shown { N.shows nodes.old separator.left }
     ensures stepped { Stepped walk.now result.0 (N.world nodes.old) (N.world nodes.new) }
     ensures rule { IsTurned result.1 walk.now (N.world nodes.old) (N.world nodes.new) (N.left nodes.old) (N.left nodes.new) (Stage.Post separator (Rise.Crown root)) result.0 }
     ensures keys { KeepsKeys (N.world nodes.old) (N.world nodes.new) }
@@ -178,57 +138,27 @@ pub(crate) fn write_root<N: Nodes>(
     ensures busy { OnBusy result.1 (IsInTheWay (N.flushes nodes.old) (N.world nodes.old) walk.now.op) }
     ensures cause { CausedTurn result.1 (N.faults nodes.old) (N.faults nodes.new) (N.halted nodes.old) (N.halted nodes.new) }
 {
-    let mut node = Node::new(0, 0, true, 1);
-    let seen = nodes.look(walk.op, separator.left, &mut node);
-    if !is_done(&seen) {
-        return (
-            Stage::Post {
-                separator,
-                rise: Rise::Crown { root },
-            },
-            seen,
-        );
-    }
+    let node = nodes.node(separator.left);
     if node.key_len() != separator.low.key.as_slice().len() {
         let fault = nodes.bad(separator.left);
-        return (
-            Stage::Post {
-                separator,
-                rise: Rise::Crown { root },
-            },
-            Turn::Refused(fault),
-        );
+        let rise = Rise::Crown { root };
+        return (Stage::Post { separator, rise }, Turn::Refused(fault));
     }
-    let mut new = node_over(alloc, &node, separator.left);
+    let mut new = node_over(alloc, node, separator.left);
     if new.has(&separator.low) {
         let fault = nodes.bad(separator.left);
-        return (
-            Stage::Post {
-                separator,
-                rise: Rise::Crown { root },
-            },
-            Turn::Refused(fault),
-        );
+        let rise = Rise::Crown { root };
+        return (Stage::Post { separator, rise }, Turn::Refused(fault));
     }
     new.post(&separator.low, separator.child);
     let _count = new.count();
     let edited = nodes.edit(walk.op, root, &new, Mark::NONE);
     if !is_done(&edited) {
-        return (
-            Stage::Post {
-                separator,
-                rise: Rise::Crown { root },
-            },
-            edited,
-        );
+        let rise = Rise::Crown { root };
+        return (Stage::Post { separator, rise }, edited);
     }
-    (
-        Stage::Post {
-            separator,
-            rise: Rise::Crowned { root },
-        },
-        Turn::More,
-    )
+    let rise = Rise::Crowned { root };
+    (Stage::Post { separator, rise }, Turn::More)
 }
 
 /// An inner node of the same index over one page, open to both sides.
@@ -271,13 +201,8 @@ pub(crate) fn name_root<N: Nodes>(
 {
     let named = nodes.set_root(walk.op, walk.at, root);
     if !is_done(&named) {
-        return (
-            Stage::Post {
-                separator,
-                rise: Rise::Crowned { root },
-            },
-            named,
-        );
+        let rise = Rise::Crowned { root };
+        return (Stage::Post { separator, rise }, named);
     }
     nodes.free(walk.op, walk.at.page);
     (Stage::Start, Turn::More)

@@ -1,7 +1,9 @@
 //! The way from the root to the leaf of a target.
 
-ghost use Rattle.std.specs.Prelude.{◌≡◌, ◌==◌, ◌&&◌, IsTrue, false, true, length};
-ghost use Rattle.ct_node.specs.Turns.{OnBusy, CausedTurn};
+ghost use Rattle.std.specs.Prelude.{◌≡◌, ◌==◌, ◌&&◌, IsTrue, IfSome, Some, false, true, length};
+ghost use Rattle.ct_node.specs.Turns.{OnDone, OnBusy, CausedTurn, LeavesLess};
+ghost use Rattle.ct_node.specs.declared.root.Mark.{Mark};
+ghost use Rattle.ct_tree.specs.Moves.{looked_at};
 ghost use Rattle.ct_tree_laws.specs.Stands.{Stands, Stepped, KeepsKeys};
 ghost use Rattle.ct_tree.specs.Answers.{is_done, IsInTheWay, IsPutting, IsTaking, IsFinding, IsSearching, answer_with, is_for};
 ghost use Rattle.ct_tree.specs.Rules.{IsTurned, leads_to};
@@ -20,6 +22,23 @@ pub(crate) fn is_done(turn: &Turn<()>) -> bool
         Turn::Busy { op: _ } => false,
         Turn::Refused(_) => false,
     }
+}
+
+/// Looks at a page, if there is one to be looked at.
+pub(crate) fn visit<N: Nodes>(op: u64, page: Option<u64>, nodes: &mut N) -> Turn<()>
+    ensures shown { OnDone result (λ _. IfSome page (N.shows nodes.new)) }
+    ensures marked { N.marked nodes.new ≡ N.marked nodes.old }
+    ensures world { N.world nodes.new ≡ N.world nodes.old }
+    ensures busy { OnBusy result (λ other. N.flushes nodes.old ≡ Some other) }
+    ensures flushes { OnDone result (λ _. N.flushes nodes.new ≡ N.flushes nodes.old) }
+    ensures marks { (mark : Mark) → N.allows nodes.old op mark → N.allows nodes.new op mark }
+    ensures left { LeavesLess result (N.left nodes.old) (N.left nodes.new) }
+    ensures cause { CausedTurn result (N.faults nodes.old) (N.faults nodes.new) (N.halted nodes.old) (N.halted nodes.new) }
+{
+    let Some(page) = page else {
+        return Turn::Done(());
+    };
+    nodes.look(op, page)
 }
 
 /// Reads the root.
@@ -46,13 +65,9 @@ pub(crate) fn start<N: Nodes>(walk: &Walk, nodes: &mut N) -> (Stage, Turn<()>)
 }
 
 /// Goes on from a page: right, down, or to a latch on the leaf that it is.
-pub(crate) fn descend<N: Nodes>(
-    walk: &Walk,
-    nodes: &mut N,
-    page: u64,
-    node: &mut Node,
-) -> (Stage, Turn<()>)
-    requires { Stands walk.now (Stage.Down page) (N.world nodes.old) }
+pub(crate) fn descend<N: Nodes>(walk: &Walk, nodes: &mut N, page: u64) -> (Stage, Turn<()>)
+    requires stands { Stands walk.now (Stage.Down page) (N.world nodes.old) }
+    requires shown { N.shows nodes.old page }
     ensures stepped { Stepped walk.now result.0 (N.world nodes.old) (N.world nodes.new) }
     ensures rule { IsTurned result.1 walk.now (N.world nodes.old) (N.world nodes.new) (N.left nodes.old) (N.left nodes.new) (Stage.Down page) result.0 }
     ensures keys { KeepsKeys (N.world nodes.old) (N.world nodes.new) }
@@ -65,10 +80,8 @@ pub(crate) fn descend<N: Nodes>(
     ensures busy { OnBusy result.1 (IsInTheWay (N.flushes nodes.old) (N.world nodes.old) walk.now.op) }
     ensures cause { CausedTurn result.1 (N.faults nodes.old) (N.faults nodes.new) (N.halted nodes.old) (N.halted nodes.new) }
 {
-    let seen = nodes.look(walk.op, page, node);
-    if !is_done(&seen) {
-        return (Stage::Down { page }, seen);
-    }
+    let node = nodes.node(page);
+    let leaf = node.is_leaf();
     let place = node.next_place(&walk.target);
     if leads_to(place, page) {
         return (Stage::Down { page }, Turn::Refused(nodes.bad(page)));
@@ -78,7 +91,7 @@ pub(crate) fn descend<N: Nodes>(
         Place::Down(below) => return (Stage::Down { page: below }, Turn::More),
         Place::Here(_) => return (Stage::Leaf { page }, Turn::More),
         Place::End => {
-            if node.is_leaf() {
+            if leaf {
                 return (Stage::Leaf { page }, Turn::More);
             }
             return (Stage::Down { page }, Turn::Refused(nodes.bad(page)));
@@ -126,14 +139,10 @@ pub(crate) fn is_for(node: &Node, pair: &Pair) -> bool
 }
 
 /// One turn on the way to a leaf that is to be the operation's own.
-pub(crate) fn find_leaf<N: Nodes>(
-    walk: &Walk,
-    stage: Stage,
-    nodes: &mut N,
-    node: &mut Node,
-) -> (Stage, Turn<()>)
+pub(crate) fn find_leaf<N: Nodes>(walk: &Walk, stage: Stage, nodes: &mut N) -> (Stage, Turn<()>)
     requires stands { Stands walk.now stage (N.world nodes.old) }
     requires finding { IsFinding stage }
+    requires shown { IfSome (looked_at stage) (N.shows nodes.old) }
     ensures stepped { Stepped walk.now result.0 (N.world nodes.old) (N.world nodes.new) }
     ensures rule { IsTurned result.1 walk.now (N.world nodes.old) (N.world nodes.new) (N.left nodes.old) (N.left nodes.new) stage result.0 }
     ensures keys { KeepsKeys (N.world nodes.old) (N.world nodes.new) }
@@ -145,7 +154,7 @@ pub(crate) fn find_leaf<N: Nodes>(
 {
     match stage {
         Stage::Start => return start(walk, nodes),
-        Stage::Down { page } => return descend(walk, nodes, page, node),
+        Stage::Down { page } => return descend(walk, nodes, page),
         Stage::Leaf { page } => return own_leaf(walk, nodes, page),
         Stage::Held { page: _ } => unreachable!(),
         Stage::Full { page: _ } => unreachable!(),

@@ -1,13 +1,14 @@
 //! Searching to the left: shared latches from the leaf of the target to the leaf of the answer, each
 //! of which is found by a descent of its own to the leaf that ends where the one before begins.
 
-ghost use Rattle.std.specs.Prelude.{◌≡◌, false};
+ghost use Rattle.std.specs.Prelude.{◌≡◌, IfSome, false};
 ghost use Rattle.ct_node.specs.declared.target.Target.TheVariants.{Before};
 ghost use Rattle.ct_node.specs.Places.{next_place};
 ghost use Rattle.ct_node.specs.Turns.{OnBusy, CausedTurn};
 ghost use Rattle.ct_tree_laws.specs.Stands.{Stands, Stepped, KeepsKeys};
 ghost use Rattle.ct_tree.specs.Answers.{is_done, TellsFound, IsInTheWay, IsSearchingLeft, found_left};
 ghost use Rattle.ct_tree.specs.Rules.{IsTurned};
+ghost use Rattle.ct_tree.specs.Moves.{looked_at, looked_on};
 
 use crate::descent::{descend, is_done, leads_to, start};
 use ct_disk::Turn;
@@ -22,10 +23,10 @@ pub(crate) fn left_step<N: Nodes>(
     or_at: bool,
     stage: Stage,
     nodes: &mut N,
-    node: &mut Node,
 ) -> (Stage, Turn<()>, Option<Pair>)
     requires stands { Stands walk.now stage (N.world nodes.old) }
     requires open { IsSearchingLeft or_at stage }
+    requires shown { IfSome (looked_at stage) (N.shows nodes.old) }
     ensures stepped { Stepped walk.now result.0 (N.world nodes.old) (N.world nodes.new) }
     ensures rule { IsTurned result.1 walk.now (N.world nodes.old) (N.world nodes.new) (N.left nodes.old) (N.left nodes.new) stage result.0 }
     ensures keys { KeepsKeys (N.world nodes.old) (N.world nodes.new) }
@@ -37,14 +38,14 @@ pub(crate) fn left_step<N: Nodes>(
 {
     match stage {
         Stage::Start => return going(start(walk, nodes)),
-        Stage::Down { page } => return going(descend(walk, nodes, page, node)),
+        Stage::Down { page } => return going(descend(walk, nodes, page)),
         Stage::Leaf { page } => return going(share_first(walk, nodes, page)),
-        Stage::SharedLeft { page } => return look_first(alloc, walk, or_at, nodes, page, node),
+        Stage::SharedLeft { page } => return look_first(alloc, walk, or_at, nodes, page),
         Stage::Left {
             low,
             or_at: over,
             way,
-        } => return go_left(alloc, walk, over, nodes, low, way, node),
+        } => return go_left(alloc, walk, over, nodes, low, way),
         Stage::Held { page: _ } => unreachable!(),
         Stage::Full { page: _ } => unreachable!(),
         Stage::Split { page: _, right: _ } => unreachable!(),
@@ -95,9 +96,9 @@ fn look_first<N: Nodes>(
     or_at: bool,
     nodes: &mut N,
     page: u64,
-    node: &mut Node,
 ) -> (Stage, Turn<()>, Option<Pair>)
-    requires { Stands walk.now (Stage.SharedLeft page) (N.world nodes.old) }
+    requires stands { Stands walk.now (Stage.SharedLeft page) (N.world nodes.old) }
+    requires shown { N.shows nodes.old page }
     ensures stepped { Stepped walk.now result.0 (N.world nodes.old) (N.world nodes.new) }
     ensures rule { IsTurned result.1 walk.now (N.world nodes.old) (N.world nodes.new) (N.left nodes.old) (N.left nodes.new) (Stage.SharedLeft page) result.0 }
     ensures keys { KeepsKeys (N.world nodes.old) (N.world nodes.new) }
@@ -107,10 +108,7 @@ fn look_first<N: Nodes>(
     ensures busy { OnBusy result.1 (IsInTheWay (N.flushes nodes.old) (N.world nodes.old) walk.now.op) }
     ensures cause { CausedTurn result.1 (N.faults nodes.old) (N.faults nodes.new) (N.halted nodes.old) (N.halted nodes.new) }
 {
-    let seen = nodes.look(walk.op, page, node);
-    if !is_done(&seen) {
-        return (Stage::SharedLeft { page }, seen, None);
-    }
+    let node = nodes.node(page);
     if let Place::Right(right) = node.next_place(&walk.target) {
         nodes.free_all(walk.op);
         return (Stage::Down { page: right }, Turn::More, None);
@@ -137,9 +135,9 @@ fn go_left<N: Nodes>(
     nodes: &mut N,
     low: Pair,
     way: Way,
-    node: &mut Node,
 ) -> (Stage, Turn<()>, Option<Pair>)
-    requires { Stands walk.now (Stage.Left low or_at way) (N.world nodes.old) }
+    requires stands { Stands walk.now (Stage.Left low or_at way) (N.world nodes.old) }
+    requires shown { IfSome (looked_on way) (N.shows nodes.old) }
     ensures stepped { Stepped walk.now result.0 (N.world nodes.old) (N.world nodes.new) }
     ensures rule { IsTurned result.1 walk.now (N.world nodes.old) (N.world nodes.new) (N.left nodes.old) (N.left nodes.new) (Stage.Left low or_at way) result.0 }
     ensures keys { KeepsKeys (N.world nodes.old) (N.world nodes.new) }
@@ -151,9 +149,9 @@ fn go_left<N: Nodes>(
 {
     match way {
         Way::Start => return going(start_left(walk, or_at, nodes, low)),
-        Way::Down { page } => return going(descend_left(walk, or_at, nodes, low, page, node)),
+        Way::Down { page } => return going(descend_left(walk, or_at, nodes, low, page)),
         Way::Leaf { page } => return going(share_left(walk, or_at, nodes, low, page)),
-        Way::Shared { page } => return look_left(alloc, walk, or_at, nodes, low, page, node),
+        Way::Shared { page } => return look_left(alloc, walk, or_at, nodes, low, page),
     }
 }
 
@@ -203,9 +201,9 @@ fn descend_left<N: Nodes>(
     nodes: &mut N,
     low: Pair,
     page: u64,
-    node: &mut Node,
 ) -> (Stage, Turn<()>)
-    requires { Stands walk.now (Stage.Left low or_at (Way.Down page)) (N.world nodes.old) }
+    requires stands { Stands walk.now (Stage.Left low or_at (Way.Down page)) (N.world nodes.old) }
+    requires shown { N.shows nodes.old page }
     ensures stepped { Stepped walk.now result.0 (N.world nodes.old) (N.world nodes.new) }
     ensures rule { IsTurned result.1 walk.now (N.world nodes.old) (N.world nodes.new) (N.left nodes.old) (N.left nodes.new) (Stage.Left low or_at (Way.Down page)) result.0 }
     ensures keys { KeepsKeys (N.world nodes.old) (N.world nodes.new) }
@@ -215,11 +213,8 @@ fn descend_left<N: Nodes>(
     ensures busy { OnBusy result.1 (IsInTheWay (N.flushes nodes.old) (N.world nodes.old) walk.now.op) }
     ensures cause { CausedTurn result.1 (N.faults nodes.old) (N.faults nodes.new) (N.halted nodes.old) (N.halted nodes.new) }
 {
-    let seen = nodes.look(walk.op, page, node);
-    if !is_done(&seen) {
-        let way = Way::Down { page };
-        return (Stage::Left { low, or_at, way }, seen);
-    }
+    let node = nodes.node(page);
+    let leaf = node.is_leaf();
     let (place, low) = next_before(node, low);
     if leads_to(place, page) {
         let way = Way::Down { page };
@@ -242,7 +237,7 @@ fn descend_left<N: Nodes>(
             return (Stage::Left { low, or_at, way }, Turn::More);
         }
         Place::End => {
-            if node.is_leaf() {
+            if leaf {
                 let way = Way::Leaf { page };
                 return (Stage::Left { low, or_at, way }, Turn::More);
             }
@@ -291,9 +286,9 @@ fn look_left<N: Nodes>(
     nodes: &mut N,
     low: Pair,
     page: u64,
-    node: &mut Node,
 ) -> (Stage, Turn<()>, Option<Pair>)
-    requires { Stands walk.now (Stage.Left low or_at (Way.Shared page)) (N.world nodes.old) }
+    requires stands { Stands walk.now (Stage.Left low or_at (Way.Shared page)) (N.world nodes.old) }
+    requires shown { N.shows nodes.old page }
     ensures stepped { Stepped walk.now result.0 (N.world nodes.old) (N.world nodes.new) }
     ensures rule { IsTurned result.1 walk.now (N.world nodes.old) (N.world nodes.new) (N.left nodes.old) (N.left nodes.new) (Stage.Left low or_at (Way.Shared page)) result.0 }
     ensures keys { KeepsKeys (N.world nodes.old) (N.world nodes.new) }
@@ -303,11 +298,8 @@ fn look_left<N: Nodes>(
     ensures busy { OnBusy result.1 (IsInTheWay (N.flushes nodes.old) (N.world nodes.old) walk.now.op) }
     ensures cause { CausedTurn result.1 (N.faults nodes.old) (N.faults nodes.new) (N.halted nodes.old) (N.halted nodes.new) }
 {
-    let seen = nodes.look(walk.op, page, node);
+    let node = nodes.node(page);
     let way = Way::Shared { page };
-    if !is_done(&seen) {
-        return (Stage::Left { low, or_at, way }, seen, None);
-    }
     let (place, low) = next_before(node, low);
     if let Place::Right(right) = place {
         nodes.free(walk.op, page);

@@ -8,11 +8,11 @@ ghost use Rattle.ct_tree.specs.Counted.{IsCounted};
 ghost use Rattle.ct_node.specs.Worlds.{World};
 ghost use Rattle.ct_tree_laws.specs.declared.walk.Walk.{Walk};
 ghost use Rattle.ct_tree_laws.specs.declared.walk.Stage.{Stage};
-ghost use Rattle.ct_tree.specs.Moves.{coming, found, coming_above, found_above, spot_on, spot_in, spot_of, waits, moves_after, circle_at, MayMove};
+ghost use Rattle.ct_tree.specs.Moves.{looked_at, looked_on, looked_in, coming, found, coming_above, found_above, spot_on, spot_in, spot_of, waits, moves_after, circle_at, MayMove};
 ghost use Rattle.ct_tree.specs.Rules.{IsOneTurn};
 ghost use Rattle.ct_tree.specs.Ends.{left_of, IsLess};
 
-use ct_tree_laws::{Rise, Stage, Way};
+use ct_tree_laws::{Rise, Separator, Stage, Way};
 
 /// Where an operation is: at a page that its walk has come to and that it has not looked at yet, or
 /// at one that it has found; and whether that is on the level above a split.
@@ -138,6 +138,64 @@ fn spot_in(rise: &Rise) -> Option<Spot>
         Rise::Named => return None,
         Rise::Grow => return None,
         Rise::Crown { root: _ } => return None,
+        Rise::Crowned { root: _ } => return None,
+    }
+}
+
+/// The page that an operation looks at in its turn, if it looks at one.
+pub(crate) fn looked_at(stage: &Stage) -> Option<u64>
+    ensures { result ≡ looked_at stage.now }
+{
+    match stage {
+        Stage::Start => return None,
+        Stage::Down { page } => return Some(*page),
+        Stage::Leaf { page: _ } => return None,
+        Stage::Held { page } => return Some(*page),
+        Stage::Full { page: _ } => return None,
+        Stage::Split { page, right: _ } => return Some(*page),
+        Stage::Cut { page, right: _ } => return Some(*page),
+        Stage::Share { page: _, above: _ } => return None,
+        Stage::Shared { page, above: _ } => return Some(*page),
+        Stage::SharedLeft { page } => return Some(*page),
+        Stage::Left {
+            low: _,
+            or_at: _,
+            way,
+        } => return looked_on(way),
+        Stage::Post { separator, rise } => return looked_in(separator, rise),
+        Stage::Ended => return None,
+    }
+}
+
+/// The page that a search to the left looks at on its way to the next leaf.
+fn looked_on(way: &Way) -> Option<u64>
+    ensures { result ≡ looked_on way.now }
+{
+    match way {
+        Way::Start => return None,
+        Way::Down { page } => return Some(*page),
+        Way::Leaf { page: _ } => return None,
+        Way::Shared { page } => return Some(*page),
+    }
+}
+
+/// The page that is looked at in the posting of a separator.
+fn looked_in(separator: &Separator, rise: &Rise) -> Option<u64>
+    ensures { result ≡ looked_in separator.now rise.now }
+{
+    match rise {
+        Rise::Root => return None,
+        Rise::Down { page, above: _ } => return Some(*page),
+        Rise::Above { page: _ } => return None,
+        Rise::Held { page, next: _ } => return Some(*page),
+        Rise::Full { page: _ } => return None,
+        Rise::Fresh { page: _, right: _ } => return None,
+        Rise::Split { page, right: _ } => return Some(*page),
+        Rise::Cut { page, right: _ } => return Some(*page),
+        Rise::Again => return None,
+        Rise::Named => return None,
+        Rise::Grow => return None,
+        Rise::Crown { root: _ } => return Some(separator.left),
         Rise::Crowned { root: _ } => return None,
     }
 }

@@ -1,7 +1,7 @@
 //! Posting the separator of a split to the level above: the node there found, made the operation's
 //! own, split where it is full, and written.
 
-ghost use Rattle.std.specs.Prelude.{ℕ, ◌≡◌, ◌⊎◌, ◌==◌, ◌&&◌, not, length, IsTrue, false, true};
+ghost use Rattle.std.specs.Prelude.{ℕ, ◌≡◌, ◌⊎◌, ◌==◌, ◌&&◌, not, length, IsTrue, IfSome, false, true};
 ghost use Rattle.ct_node.specs.declared.target.Target.TheVariants.{At};
 ghost use Rattle.ct_node.specs.Nodes.{is_within};
 ghost use Rattle.ct_node.specs.Places.{next_place};
@@ -11,6 +11,7 @@ ghost use Rattle.ct_tree_laws.specs.declared.walk.Walk.{Walk};
 ghost use Rattle.ct_tree_laws.specs.Stands.{Stands, Stepped, KeepsKeys, after_post};
 ghost use Rattle.ct_tree.specs.Answers.{is_done, is_above_for, IsInTheWay, IsPutting};
 ghost use Rattle.ct_tree.specs.Rules.{IsTurned, leaves_room};
+ghost use Rattle.ct_tree.specs.Moves.{looked_in};
 
 use crate::crown::{allocate_root, name_again, name_root, own_definition, write_root};
 use crate::descent::{is_done, leads_to};
@@ -27,8 +28,10 @@ pub(crate) fn post<N: Nodes>(
     nodes: &mut N,
     separator: Separator,
     rise: Rise,
+    node: &mut Node,
 ) -> (Stage, Turn<()>)
-    requires { Stands walk.now (Stage.Post separator rise) (N.world nodes.old) }
+    requires stands { Stands walk.now (Stage.Post separator rise) (N.world nodes.old) }
+    requires shown { IfSome (looked_in separator rise) (N.shows nodes.old) }
     ensures stepped { Stepped walk.now result.0 (N.world nodes.old) (N.world nodes.new) }
     ensures rule { IsTurned result.1 walk.now (N.world nodes.old) (N.world nodes.new) (N.left nodes.old) (N.left nodes.new) (Stage.Post separator rise) result.0 }
     ensures keys { KeepsKeys (N.world nodes.old) (N.world nodes.new) }
@@ -42,11 +45,15 @@ pub(crate) fn post<N: Nodes>(
         Rise::Root => return read_root(walk, nodes, separator),
         Rise::Down { page, above } => return find_above(walk, nodes, separator, page, above),
         Rise::Above { page } => return own_above(walk, nodes, separator, page),
-        Rise::Held { page, next } => return post_held(walk, nodes, separator, page, next),
+        Rise::Held { page, next } => return post_held(walk, nodes, separator, page, next, node),
         Rise::Full { page } => return allocate_above(walk, nodes, separator, page),
         Rise::Fresh { page, right } => return own_right(walk, nodes, separator, page, right),
-        Rise::Split { page, right } => return write_above(walk, nodes, separator, page, right),
-        Rise::Cut { page, right } => return cut_above(alloc, walk, nodes, separator, page, right),
+        Rise::Split { page, right } => return write_above(
+            walk, nodes, separator, page, right, node,
+        ),
+        Rise::Cut { page, right } => return cut_above(
+            alloc, walk, nodes, separator, page, right, node,
+        ),
         Rise::Again => return own_definition(walk, nodes, separator),
         Rise::Named => return name_again(walk, nodes, separator),
         Rise::Grow => return allocate_root(walk, nodes, separator),
@@ -74,43 +81,24 @@ pub(crate) fn read_root<N: Nodes>(
     match nodes.root(walk.op, walk.at) {
         Turn::Done(page) => {
             if page == separator.left {
-                return (
-                    Stage::Post {
-                        separator,
-                        rise: Rise::Again,
-                    },
-                    Turn::More,
-                );
+                let rise = Rise::Again;
+                return (Stage::Post { separator, rise }, Turn::More);
             }
-            return (
-                Stage::Post {
-                    separator,
-                    rise: Rise::Down { page, above: None },
-                },
-                Turn::More,
-            );
+            let rise = Rise::Down { page, above: None };
+            return (Stage::Post { separator, rise }, Turn::More);
         }
-        Turn::More => return (
-            Stage::Post {
-                separator,
-                rise: Rise::Root,
-            },
-            Turn::More,
-        ),
-        Turn::Busy { op } => return (
-            Stage::Post {
-                separator,
-                rise: Rise::Root,
-            },
-            Turn::Busy { op },
-        ),
-        Turn::Refused(fault) => return (
-            Stage::Post {
-                separator,
-                rise: Rise::Root,
-            },
-            Turn::Refused(fault),
-        ),
+        Turn::More => {
+            let rise = Rise::Root;
+            return (Stage::Post { separator, rise }, Turn::More);
+        }
+        Turn::Busy { op } => {
+            let rise = Rise::Root;
+            return (Stage::Post { separator, rise }, Turn::Busy { op });
+        }
+        Turn::Refused(fault) => {
+            let rise = Rise::Root;
+            return (Stage::Post { separator, rise }, Turn::Refused(fault));
+        }
     }
 }
 
@@ -124,7 +112,8 @@ pub(crate) fn find_above<N: Nodes>(
     page: u64,
     above: Option<u64>,
 ) -> (Stage, Turn<()>)
-    requires { Stands walk.now (Stage.Post separator (Rise.Down page above)) (N.world nodes.old) }
+    requires stands { Stands walk.now (Stage.Post separator (Rise.Down page above)) (N.world nodes.old) }
+    requires shown { N.shows nodes.old page }
     ensures stepped { Stepped walk.now result.0 (N.world nodes.old) (N.world nodes.new) }
     ensures rule { IsTurned result.1 walk.now (N.world nodes.old) (N.world nodes.new) (N.left nodes.old) (N.left nodes.new) (Stage.Post separator (Rise.Down page above)) result.0 }
     ensures keys { KeepsKeys (N.world nodes.old) (N.world nodes.new) }
@@ -134,19 +123,10 @@ pub(crate) fn find_above<N: Nodes>(
     ensures busy { OnBusy result.1 (IsInTheWay (N.flushes nodes.old) (N.world nodes.old) walk.now.op) }
     ensures cause { CausedTurn result.1 (N.faults nodes.old) (N.faults nodes.new) (N.halted nodes.old) (N.halted nodes.new) }
 {
-    let mut node = Node::new(0, 0, true, 1);
-    let seen = nodes.look(walk.op, page, &mut node);
-    if !is_done(&seen) {
-        return (
-            Stage::Post {
-                separator,
-                rise: Rise::Down { page, above },
-            },
-            seen,
-        );
-    }
     let Separator { low, child, left } = separator;
-    let (place, low) = place_of(&node, low);
+    let node = nodes.node(page);
+    let leaf = node.is_leaf();
+    let (place, low) = place_of(node, low);
     let separator = Separator { low, child, left };
     if leads_to(place, page) {
         let fault = nodes.bad(page);
@@ -158,7 +138,7 @@ pub(crate) fn find_above<N: Nodes>(
         Place::Down(below) => return (on_way(separator, below, Some(page)), Turn::More),
         Place::Here(_) => return (Stage::Start, Turn::More),
         Place::End => {
-            if node.is_leaf() {
+            if leaf {
                 return (Stage::Start, Turn::More);
             }
             let fault = nodes.bad(page);
@@ -223,21 +203,11 @@ pub(crate) fn own_above<N: Nodes>(
 {
     let owned = nodes.own(walk.op, page);
     if !is_done(&owned) {
-        return (
-            Stage::Post {
-                separator,
-                rise: Rise::Above { page },
-            },
-            owned,
-        );
+        let rise = Rise::Above { page };
+        return (Stage::Post { separator, rise }, owned);
     }
-    (
-        Stage::Post {
-            separator,
-            rise: Rise::Held { page, next: None },
-        },
-        Turn::More,
-    )
+    let rise = Rise::Held { page, next: None };
+    (Stage::Post { separator, rise }, Turn::More)
 }
 
 /// Whether a node is an inner one that begins at its low bound, with keys as long as a pair's.
@@ -255,8 +225,10 @@ pub(crate) fn post_held<N: Nodes>(
     separator: Separator,
     page: u64,
     next: Option<Separator>,
+    node: &mut Node,
 ) -> (Stage, Turn<()>)
-    requires { Stands walk.now (Stage.Post separator (Rise.Held page next)) (N.world nodes.old) }
+    requires stands { Stands walk.now (Stage.Post separator (Rise.Held page next)) (N.world nodes.old) }
+    requires shown { N.shows nodes.old page }
     ensures stepped { Stepped walk.now result.0 (N.world nodes.old) (N.world nodes.new) }
     ensures rule { IsTurned result.1 walk.now (N.world nodes.old) (N.world nodes.new) (N.left nodes.old) (N.left nodes.new) (Stage.Post separator (Rise.Held page next)) result.0 }
     ensures keys { KeepsKeys (N.world nodes.old) (N.world nodes.new) }
@@ -266,38 +238,18 @@ pub(crate) fn post_held<N: Nodes>(
     ensures busy { OnBusy result.1 (IsInTheWay (N.flushes nodes.old) (N.world nodes.old) walk.now.op) }
     ensures cause { CausedTurn result.1 (N.faults nodes.old) (N.faults nodes.new) (N.halted nodes.old) (N.halted nodes.new) }
 {
-    let mut node = Node::new(0, 0, true, 1);
-    let seen = nodes.look(walk.op, page, &mut node);
-    if !is_done(&seen) {
-        return (
-            Stage::Post {
-                separator,
-                rise: Rise::Held { page, next },
-            },
-            seen,
-        );
-    }
+    nodes.node(page).copy_into(node);
     if node.covers(&separator.low) {
-        return post_within(walk, nodes, separator, page, next, &mut node);
+        return post_within(walk, nodes, separator, page, next, node);
     }
     if next.is_some() {
         let fault = nodes.bad(page);
-        return (
-            Stage::Post {
-                separator,
-                rise: Rise::Held { page, next },
-            },
-            Turn::Refused(fault),
-        );
+        let rise = Rise::Held { page, next };
+        return (Stage::Post { separator, rise }, Turn::Refused(fault));
     }
     nodes.free(walk.op, page);
-    (
-        Stage::Post {
-            separator,
-            rise: Rise::Above { page: node.right() },
-        },
-        Turn::More,
-    )
+    let rise = Rise::Above { page: node.right() };
+    (Stage::Post { separator, rise }, Turn::More)
 }
 
 /// Posts the separator to the node, unless it is there. A full node is to be split first.
@@ -323,13 +275,8 @@ fn post_within<N: Nodes>(
 {
     if !is_above_for(node, &separator.low) {
         let fault = nodes.bad(page);
-        return (
-            Stage::Post {
-                separator,
-                rise: Rise::Held { page, next },
-            },
-            Turn::Refused(fault),
-        );
+        let rise = Rise::Held { page, next };
+        return (Stage::Post { separator, rise }, Turn::Refused(fault));
     }
     if node.has(&separator.low) {
         nodes.free(walk.op, page);
@@ -338,43 +285,23 @@ fn post_within<N: Nodes>(
     if !node.fits() {
         if next.is_some() {
             let fault = nodes.bad(page);
-            return (
-                Stage::Post {
-                    separator,
-                    rise: Rise::Held { page, next },
-                },
-                Turn::Refused(fault),
-            );
+            let rise = Rise::Held { page, next };
+            return (Stage::Post { separator, rise }, Turn::Refused(fault));
         }
-        return (
-            Stage::Post {
-                separator,
-                rise: Rise::Full { page },
-            },
-            Turn::More,
-        );
+        let rise = Rise::Full { page };
+        return (Stage::Post { separator, rise }, Turn::More);
     }
     node.post(&separator.low, separator.child);
     if !leaves_room(&next, node) {
         let fault = nodes.bad(page);
-        return (
-            Stage::Post {
-                separator,
-                rise: Rise::Held { page, next },
-            },
-            Turn::Refused(fault),
-        );
+        let rise = Rise::Held { page, next };
+        return (Stage::Post { separator, rise }, Turn::Refused(fault));
     }
     let _count = node.count();
     let edited = nodes.edit(walk.op, page, node, Mark::NONE);
     if !is_done(&edited) {
-        return (
-            Stage::Post {
-                separator,
-                rise: Rise::Held { page, next },
-            },
-            edited,
-        );
+        let rise = Rise::Held { page, next };
+        return (Stage::Post { separator, rise }, edited);
     }
     nodes.free(walk.op, page);
     (after_post(next), Turn::More)

@@ -1,18 +1,18 @@
 //! Putting a pair: the leaf found, made the operation's own, split where it is full, and written.
 
-ghost use Rattle.std.specs.Prelude.{◌≡◌, ◌≤◌, ◌==◌, ◌&&◌, IsTrue, false, true, length};
+ghost use Rattle.std.specs.Prelude.{◌≡◌, ◌≤◌, ◌==◌, ◌&&◌, IsTrue, IfSome, false, true, length};
 ghost use Rattle.ct_node.specs.Places.{is_past};
 ghost use Rattle.ct_node.specs.Worlds.{Holds, page_at};
 ghost use Rattle.ct_node.specs.Turns.{OnDone, OnBusy, CausedTurn, OnMore};
 ghost use Rattle.ct_tree_laws.specs.Stands.{Stands, Stepped, HasNone};
 ghost use Rattle.ct_tree.specs.Answers.{IsPair, PutsKeys, IsInTheWay, IsPutting, GoesOn, BearsPut};
 ghost use Rattle.ct_tree.specs.Rules.{IsTurned};
-ghost use Rattle.ct_tree.specs.Moves.{spot_of, moves_after};
+ghost use Rattle.ct_tree.specs.Moves.{looked_at, spot_of, moves_after};
 ghost use Rattle.ct_tree.specs.Counted.{IsCounted};
 ghost use Rattle.ct_tree.specs.Ends.{left_of, IsLess};
 
-use crate::descent::{descend, is_done, is_for, own_leaf, start};
-use crate::moves::{circle_at, moves_after, spot_of};
+use crate::descent::{descend, is_done, is_for, own_leaf, start, visit};
+use crate::moves::{circle_at, looked_at, moves_after, spot_of};
 use crate::post::post;
 use crate::split::{allocate, cut_left, write_right};
 use ct_disk::Turn;
@@ -116,15 +116,44 @@ fn put_step<N: Nodes>(
     ensures busy { OnBusy result.1 (IsInTheWay (N.flushes nodes.old) (N.world nodes.old) walk.now.op) }
     ensures cause { CausedTurn result.1 (N.faults nodes.old) (N.faults nodes.new) (N.halted nodes.old) (N.halted nodes.new) }
 {
+    let seen = visit(walk.op, looked_at(&stage), nodes);
+    if !is_done(&seen) {
+        return (stage, seen);
+    }
+    put_seen(alloc, walk, mark, stage, nodes, node)
+}
+
+/// The turn of a put at a stage, once the page that it looks at is at hand.
+fn put_seen<N: Nodes>(
+    alloc: Global,
+    walk: &Walk,
+    mark: Mark,
+    stage: Stage,
+    nodes: &mut N,
+    node: &mut Node,
+) -> (Stage, Turn<()>)
+    requires stands { Stands walk.now stage (N.world nodes.old) }
+    requires pair { IsPair walk.now.target }
+    requires open { IsPutting stage }
+    requires mark { N.allows nodes.old walk.now.op mark }
+    requires shown { IfSome (looked_at stage) (N.shows nodes.old) }
+    ensures stepped { Stepped walk.now result.0 (N.world nodes.old) (N.world nodes.new) }
+    ensures rule { IsTurned result.1 walk.now (N.world nodes.old) (N.world nodes.new) (N.left nodes.old) (N.left nodes.new) stage result.0 }
+    ensures keys { PutsKeys walk.now result.1 (N.world nodes.old) (N.world nodes.new) }
+    ensures goes { GoesOn result.1 result.0 }
+    ensures bears { BearsPut walk.now mark result.1 (N.world nodes.old) (N.marked nodes.old) (N.marked nodes.new) }
+    ensures busy { OnBusy result.1 (IsInTheWay (N.flushes nodes.old) (N.world nodes.old) walk.now.op) }
+    ensures cause { CausedTurn result.1 (N.faults nodes.old) (N.faults nodes.new) (N.halted nodes.old) (N.halted nodes.new) }
+{
     match stage {
         Stage::Start => return start(walk, nodes),
-        Stage::Down { page } => return descend(walk, nodes, page, node),
+        Stage::Down { page } => return descend(walk, nodes, page),
         Stage::Leaf { page } => return own_leaf(walk, nodes, page),
         Stage::Held { page } => return put_held(walk, mark, nodes, page, node),
         Stage::Full { page } => return allocate(walk, nodes, page),
-        Stage::Split { page, right } => return write_right(walk, nodes, page, right),
-        Stage::Cut { page, right } => return cut_left(alloc, walk, nodes, page, right),
-        Stage::Post { separator, rise } => return post(alloc, walk, nodes, separator, rise),
+        Stage::Split { page, right } => return write_right(walk, nodes, page, right, node),
+        Stage::Cut { page, right } => return cut_left(alloc, walk, nodes, page, right, node),
+        Stage::Post { separator, rise } => return post(alloc, walk, nodes, separator, rise, node),
         Stage::Share { page: _, above: _ } => unreachable!(),
         Stage::Shared { page: _, above: _ } => unreachable!(),
         Stage::SharedLeft { page: _ } => unreachable!(),
@@ -149,6 +178,7 @@ pub(crate) fn put_held<N: Nodes>(
     requires stands { Stands walk.now (Stage.Held page) (N.world nodes.old) }
     requires pair { IsPair walk.now.target }
     requires mark { N.allows nodes.old walk.now.op mark }
+    requires shown { N.shows nodes.old page }
     ensures stepped { Stepped walk.now result.0 (N.world nodes.old) (N.world nodes.new) }
     ensures rule { IsTurned result.1 walk.now (N.world nodes.old) (N.world nodes.new) (N.left nodes.old) (N.left nodes.new) (Stage.Held page) result.0 }
     ensures keys { PutsKeys walk.now result.1 (N.world nodes.old) (N.world nodes.new) }
@@ -157,10 +187,7 @@ pub(crate) fn put_held<N: Nodes>(
     ensures busy { OnBusy result.1 (IsInTheWay (N.flushes nodes.old) (N.world nodes.old) walk.now.op) }
     ensures cause { CausedTurn result.1 (N.faults nodes.old) (N.faults nodes.new) (N.halted nodes.old) (N.halted nodes.new) }
 {
-    let seen = nodes.look(walk.op, page, node);
-    if !is_done(&seen) {
-        return (Stage::Held { page }, seen);
-    }
+    nodes.node(page).copy_into(node);
     match node.next_place(&walk.target) {
         Place::Right(right) => {
             nodes.free(walk.op, page);

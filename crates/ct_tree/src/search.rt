@@ -1,21 +1,21 @@
 //! Searching an index: shared latches from the leaf of the target to the leaf of the answer, here to
 //! the right.
 
-ghost use Rattle.std.specs.Prelude.{◌≡◌, ◌≤◌, ◌<◌, IsTrue, false, true, length};
+ghost use Rattle.std.specs.Prelude.{◌≡◌, ◌≤◌, ◌<◌, IsTrue, IfSome, false, true, length};
 ghost use Rattle.ct_node.specs.Turns.{OnBusy, CausedTurn, OnMore};
 ghost use Rattle.ct_tree_laws.specs.Stands.{Stands, Stepped, KeepsKeys, HasNone};
 ghost use Rattle.ct_tree.specs.Answers.{is_done, TellsFound, IsFound, IsInTheWay, IsSearching, IsSeeking, IsSearchingBy, found_right, found_by};
 ghost use Rattle.ct_tree.specs.Rules.{IsTurned, GivesWay};
-ghost use Rattle.ct_tree.specs.Moves.{spot_of, moves_after};
+ghost use Rattle.ct_tree.specs.Moves.{looked_at, spot_of, moves_after};
 ghost use Rattle.ct_tree.specs.Counted.{IsCounted};
 ghost use Rattle.ct_tree.specs.Ends.{left_of, IsLess};
 
-use crate::descent::{answer_with, descend, is_done, start};
+use crate::descent::{answer_with, descend, is_done, start, visit};
 use crate::left::left_step;
-use crate::moves::{circle_at, moves_after, spot_of};
+use crate::moves::{circle_at, looked_at, moves_after, spot_of};
 use crate::seek::Seek;
 use ct_disk::Turn;
-use ct_node::{Node, Nodes, Pair, Place, Root, Target};
+use ct_node::{Nodes, Pair, Place, Root, Target};
 use ct_tree_laws::{Stage, Walk};
 use std::alloc::Global;
 use std::mem::replace;
@@ -29,7 +29,6 @@ pub struct Search {
     pub stage: Stage,
     /// How many moves to another page the walk that is under way has made.
     pub moves: u64,
-    node: Node,
 }
 
 impl Search {
@@ -47,7 +46,6 @@ impl Search {
             seek,
             stage: Stage::Start,
             moves: 0,
-            node: Node::new(0, 0, true, 1),
         }
     }
 
@@ -79,14 +77,7 @@ impl Search {
             return Turn::Refused(nodes.bad(page));
         }
         let stage = replace(&mut self.stage, Stage::Ended);
-        let step = seek_step(
-            self.alloc,
-            &self.walk,
-            self.seek,
-            stage,
-            nodes,
-            &mut self.node,
-        );
+        let step = seek_step(self.alloc, &self.walk, self.seek, stage, nodes);
         self.stage = give_way(&self.walk, self.seek, step.0, &step.1, nodes);
         self.moves = moves_after(from, spot_of(&self.stage), self.moves, pages);
         answer_with(step.1, step.2)
@@ -119,7 +110,6 @@ fn seek_step<N: Nodes>(
     seek: Seek,
     stage: Stage,
     nodes: &mut N,
-    node: &mut Node,
 ) -> (Stage, Turn<()>, Option<Pair>)
     requires stands { Stands walk.now stage (N.world nodes.old) }
     requires open { IsSearchingBy seek stage }
@@ -132,11 +122,15 @@ fn seek_step<N: Nodes>(
     ensures busy { OnBusy result.1 (IsInTheWay (N.flushes nodes.old) (N.world nodes.old) walk.now.op) }
     ensures cause { CausedTurn result.1 (N.faults nodes.old) (N.faults nodes.new) (N.halted nodes.old) (N.halted nodes.new) }
 {
+    let seen = visit(walk.op, looked_at(&stage), nodes);
+    if !is_done(&seen) {
+        return (stage, seen, None);
+    }
     match seek {
-        Seek::AtOrAbove => return search_step(alloc, walk, false, stage, nodes, node),
-        Seek::Above => return search_step(alloc, walk, true, stage, nodes, node),
-        Seek::AtOrBelow => return left_step(alloc, walk, true, stage, nodes, node),
-        Seek::Below => return left_step(alloc, walk, false, stage, nodes, node),
+        Seek::AtOrAbove => return search_step(alloc, walk, false, stage, nodes),
+        Seek::Above => return search_step(alloc, walk, true, stage, nodes),
+        Seek::AtOrBelow => return left_step(alloc, walk, true, stage, nodes),
+        Seek::Below => return left_step(alloc, walk, false, stage, nodes),
     }
 }
 
@@ -171,10 +165,10 @@ fn search_step<N: Nodes>(
     above: bool,
     stage: Stage,
     nodes: &mut N,
-    node: &mut Node,
 ) -> (Stage, Turn<()>, Option<Pair>)
     requires stands { Stands walk.now stage (N.world nodes.old) }
     requires open { IsSearching above stage }
+    requires shown { IfSome (looked_at stage) (N.shows nodes.old) }
     ensures stepped { Stepped walk.now result.0 (N.world nodes.old) (N.world nodes.new) }
     ensures rule { IsTurned result.1 walk.now (N.world nodes.old) (N.world nodes.new) (N.left nodes.old) (N.left nodes.new) stage result.0 }
     ensures keys { KeepsKeys (N.world nodes.old) (N.world nodes.new) }
@@ -185,22 +179,17 @@ fn search_step<N: Nodes>(
     ensures cause { CausedTurn result.1 (N.faults nodes.old) (N.faults nodes.new) (N.halted nodes.old) (N.halted nodes.new) }
 {
     if let Stage::Shared { page, above: over } = stage {
-        return look_shared(alloc, walk, over, nodes, page, node);
+        return look_shared(alloc, walk, over, nodes, page);
     }
-    let step = find_shared(walk, above, stage, nodes, node);
+    let step = find_shared(walk, above, stage, nodes);
     (step.0, step.1, None)
 }
 
 /// One turn on the way to a leaf that is to be shared.
-fn find_shared<N: Nodes>(
-    walk: &Walk,
-    above: bool,
-    stage: Stage,
-    nodes: &mut N,
-    node: &mut Node,
-) -> (Stage, Turn<()>)
+fn find_shared<N: Nodes>(walk: &Walk, above: bool, stage: Stage, nodes: &mut N) -> (Stage, Turn<()>)
     requires stands { Stands walk.now stage (N.world nodes.old) }
     requires open { IsSeeking above stage }
+    requires shown { IfSome (looked_at stage) (N.shows nodes.old) }
     ensures stepped { Stepped walk.now result.0 (N.world nodes.old) (N.world nodes.new) }
     ensures rule { IsTurned result.1 walk.now (N.world nodes.old) (N.world nodes.new) (N.left nodes.old) (N.left nodes.new) stage result.0 }
     ensures keys { KeepsKeys (N.world nodes.old) (N.world nodes.new) }
@@ -212,7 +201,7 @@ fn find_shared<N: Nodes>(
 {
     match stage {
         Stage::Start => return start(walk, nodes),
-        Stage::Down { page } => return descend(walk, nodes, page, node),
+        Stage::Down { page } => return descend(walk, nodes, page),
         Stage::Leaf { page } => return share_leaf(walk, above, nodes, page),
         Stage::Share { page, above: over } => return share_next(walk, over, nodes, page),
         Stage::Held { page: _ } => unreachable!(),
@@ -292,9 +281,9 @@ pub(crate) fn look_shared<N: Nodes>(
     above: bool,
     nodes: &mut N,
     page: u64,
-    node: &mut Node,
 ) -> (Stage, Turn<()>, Option<Pair>)
-    requires { Stands walk.now (Stage.Shared page above) (N.world nodes.old) }
+    requires stands { Stands walk.now (Stage.Shared page above) (N.world nodes.old) }
+    requires shown { N.shows nodes.old page }
     ensures stepped { Stepped walk.now result.0 (N.world nodes.old) (N.world nodes.new) }
     ensures rule { IsTurned result.1 walk.now (N.world nodes.old) (N.world nodes.new) (N.left nodes.old) (N.left nodes.new) (Stage.Shared page above) result.0 }
     ensures keys { KeepsKeys (N.world nodes.old) (N.world nodes.new) }
@@ -304,10 +293,7 @@ pub(crate) fn look_shared<N: Nodes>(
     ensures busy { OnBusy result.1 (IsInTheWay (N.flushes nodes.old) (N.world nodes.old) walk.now.op) }
     ensures cause { CausedTurn result.1 (N.faults nodes.old) (N.faults nodes.new) (N.halted nodes.old) (N.halted nodes.new) }
 {
-    let seen = nodes.look(walk.op, page, node);
-    if !is_done(&seen) {
-        return (Stage::Shared { page, above }, seen, None);
-    }
+    let node = nodes.node(page);
     if let Place::Right(right) = node.next_place(&walk.target) {
         nodes.free_all(walk.op);
         return (Stage::Down { page: right }, Turn::More, None);

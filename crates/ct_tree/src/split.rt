@@ -41,8 +41,10 @@ pub(crate) fn write_right<N: Nodes>(
     nodes: &mut N,
     page: u64,
     right: u64,
+    upper: &mut Node,
 ) -> (Stage, Turn<()>)
-    requires { Stands walk.now (Stage.Split page right) (N.world nodes.old) }
+    requires stands { Stands walk.now (Stage.Split page right) (N.world nodes.old) }
+    requires shown { N.shows nodes.old page }
     ensures stepped { Stepped walk.now result.0 (N.world nodes.old) (N.world nodes.new) }
     ensures rule { IsTurned result.1 walk.now (N.world nodes.old) (N.world nodes.new) (N.left nodes.old) (N.left nodes.new) (Stage.Split page right) result.0 }
     ensures keys { KeepsKeys (N.world nodes.old) (N.world nodes.new) }
@@ -52,17 +54,12 @@ pub(crate) fn write_right<N: Nodes>(
     ensures busy { OnBusy result.1 (IsInTheWay (N.flushes nodes.old) (N.world nodes.old) walk.now.op) }
     ensures cause { CausedTurn result.1 (N.faults nodes.old) (N.faults nodes.new) (N.halted nodes.old) (N.halted nodes.new) }
 {
-    let mut node = Node::new(0, 0, true, 1);
-    let seen = nodes.look(walk.op, page, &mut node);
-    if !is_done(&seen) {
-        return (Stage::Split { page, right }, seen);
-    }
+    let node = nodes.node(page);
     if node.count() < 2 {
         return (Stage::Split { page, right }, Turn::Refused(nodes.bad(page)));
     }
-    let mut upper = Node::new(0, 0, true, 1);
-    node.upper_half(&mut upper);
-    let edited = nodes.edit(walk.op, right, &upper, Mark::NONE);
+    node.upper_half(upper);
+    let edited = nodes.edit(walk.op, right, upper, Mark::NONE);
     if !is_done(&edited) {
         return (Stage::Split { page, right }, edited);
     }
@@ -87,8 +84,10 @@ pub(crate) fn cut_left<N: Nodes>(
     nodes: &mut N,
     page: u64,
     right: u64,
+    node: &mut Node,
 ) -> (Stage, Turn<()>)
-    requires { Stands walk.now (Stage.Cut page right) (N.world nodes.old) }
+    requires stands { Stands walk.now (Stage.Cut page right) (N.world nodes.old) }
+    requires shown { N.shows nodes.old page }
     ensures stepped { Stepped walk.now result.0 (N.world nodes.old) (N.world nodes.new) }
     ensures rule { IsTurned result.1 walk.now (N.world nodes.old) (N.world nodes.new) (N.left nodes.old) (N.left nodes.new) (Stage.Cut page right) result.0 }
     ensures keys { KeepsKeys (N.world nodes.old) (N.world nodes.new) }
@@ -98,20 +97,16 @@ pub(crate) fn cut_left<N: Nodes>(
     ensures busy { OnBusy result.1 (IsInTheWay (N.flushes nodes.old) (N.world nodes.old) walk.now.op) }
     ensures cause { CausedTurn result.1 (N.faults nodes.old) (N.faults nodes.new) (N.halted nodes.old) (N.halted nodes.new) }
 {
-    let mut node = Node::new(0, 0, true, 1);
-    let seen = nodes.look(walk.op, page, &mut node);
-    if !is_done(&seen) {
-        return (Stage::Cut { page, right }, seen);
-    }
+    nodes.node(page).copy_into(node);
     if !node.is_leaf() {
         return (Stage::Cut { page, right }, Turn::Refused(nodes.bad(page)));
     }
-    if !is_full(&node) {
+    if !is_full(node) {
         return (Stage::Cut { page, right }, Turn::Refused(nodes.bad(page)));
     }
     let low = node.pair(alloc, node.count() / 2);
     node.cut(right);
-    let edited = nodes.edit(walk.op, page, &node, Mark::NONE);
+    let edited = nodes.edit(walk.op, page, node, Mark::NONE);
     if !is_done(&edited) {
         return (Stage::Cut { page, right }, edited);
     }
@@ -121,11 +116,6 @@ pub(crate) fn cut_left<N: Nodes>(
         child: right,
         left: page,
     };
-    (
-        Stage::Post {
-            separator,
-            rise: Rise::Root,
-        },
-        Turn::More,
-    )
+    let rise = Rise::Root;
+    (Stage::Post { separator, rise }, Turn::More)
 }

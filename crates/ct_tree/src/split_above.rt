@@ -32,35 +32,21 @@ pub(crate) fn allocate_above<N: Nodes>(
     ensures cause { CausedTurn result.1 (N.faults nodes.old) (N.faults nodes.new) (N.halted nodes.old) (N.halted nodes.new) }
 {
     match nodes.fresh(walk.op) {
-        Turn::Done(right) => return (
-            Stage::Post {
-                separator,
-                rise: Rise::Fresh { page, right },
-            },
-            Turn::More,
-        ),
-        Turn::More => return (
-            Stage::Post {
-                separator,
-                rise: Rise::Full { page },
-            },
-            Turn::More,
-        ),
-        Turn::Busy { op } => return (
-            Stage::Post {
-                separator,
-                rise: Rise::Full { page },
-            },
-            Turn::Busy { op },
-        ),
+        Turn::Done(right) => {
+            let rise = Rise::Fresh { page, right };
+            return (Stage::Post { separator, rise }, Turn::More);
+        }
+        Turn::More => {
+            let rise = Rise::Full { page };
+            return (Stage::Post { separator, rise }, Turn::More);
+        }
+        Turn::Busy { op } => {
+            let rise = Rise::Full { page };
+            return (Stage::Post { separator, rise }, Turn::Busy { op });
+        }
         Turn::Refused(fault) => {
-            return (
-                Stage::Post {
-                    separator,
-                    rise: Rise::Full { page },
-                },
-                Turn::Refused(fault),
-            );
+            let rise = Rise::Full { page };
+            return (Stage::Post { separator, rise }, Turn::Refused(fault));
         }
     }
 }
@@ -86,21 +72,11 @@ pub(crate) fn own_right<N: Nodes>(
 {
     let owned = nodes.own(walk.op, right);
     if !is_done(&owned) {
-        return (
-            Stage::Post {
-                separator,
-                rise: Rise::Fresh { page, right },
-            },
-            owned,
-        );
+        let rise = Rise::Fresh { page, right };
+        return (Stage::Post { separator, rise }, owned);
     }
-    (
-        Stage::Post {
-            separator,
-            rise: Rise::Split { page, right },
-        },
-        Turn::More,
-    )
+    let rise = Rise::Split { page, right };
+    (Stage::Post { separator, rise }, Turn::More)
 }
 
 /// Writes the right half.
@@ -110,8 +86,10 @@ pub(crate) fn write_above<N: Nodes>(
     separator: Separator,
     page: u64,
     right: u64,
+    upper: &mut Node,
 ) -> (Stage, Turn<()>)
-    requires { Stands walk.now (Stage.Post separator (Rise.Split page right)) (N.world nodes.old) }
+    requires stands { Stands walk.now (Stage.Post separator (Rise.Split page right)) (N.world nodes.old) }
+    requires shown { N.shows nodes.old page }
     ensures stepped { Stepped walk.now result.0 (N.world nodes.old) (N.world nodes.new) }
     ensures rule { IsTurned result.1 walk.now (N.world nodes.old) (N.world nodes.new) (N.left nodes.old) (N.left nodes.new) (Stage.Post separator (Rise.Split page right)) result.0 }
     ensures keys { KeepsKeys (N.world nodes.old) (N.world nodes.new) }
@@ -121,46 +99,20 @@ pub(crate) fn write_above<N: Nodes>(
     ensures busy { OnBusy result.1 (IsInTheWay (N.flushes nodes.old) (N.world nodes.old) walk.now.op) }
     ensures cause { CausedTurn result.1 (N.faults nodes.old) (N.faults nodes.new) (N.halted nodes.old) (N.halted nodes.new) }
 {
-    let mut node = Node::new(0, 0, true, 1);
-    let seen = nodes.look(walk.op, page, &mut node);
-    if !is_done(&seen) {
-        return (
-            Stage::Post {
-                separator,
-                rise: Rise::Split { page, right },
-            },
-            seen,
-        );
-    }
+    let node = nodes.node(page);
     if node.count() < 2 {
         let fault = nodes.bad(page);
-        return (
-            Stage::Post {
-                separator,
-                rise: Rise::Split { page, right },
-            },
-            Turn::Refused(fault),
-        );
+        let rise = Rise::Split { page, right };
+        return (Stage::Post { separator, rise }, Turn::Refused(fault));
     }
-    let mut upper = Node::new(0, 0, true, 1);
-    node.upper_half(&mut upper);
-    let edited = nodes.edit(walk.op, right, &upper, Mark::NONE);
+    node.upper_half(upper);
+    let edited = nodes.edit(walk.op, right, upper, Mark::NONE);
     if !is_done(&edited) {
-        return (
-            Stage::Post {
-                separator,
-                rise: Rise::Split { page, right },
-            },
-            edited,
-        );
+        let rise = Rise::Split { page, right };
+        return (Stage::Post { separator, rise }, edited);
     }
-    (
-        Stage::Post {
-            separator,
-            rise: Rise::Cut { page, right },
-        },
-        Turn::More,
-    )
+    let rise = Rise::Cut { page, right };
+    (Stage::Post { separator, rise }, Turn::More)
 }
 
 /// Cuts the left node: its right link leads to the page that was written. The half that the
@@ -172,8 +124,10 @@ pub(crate) fn cut_above<N: Nodes>(
     separator: Separator,
     page: u64,
     right: u64,
+    node: &mut Node,
 ) -> (Stage, Turn<()>)
-    requires { Stands walk.now (Stage.Post separator (Rise.Cut page right)) (N.world nodes.old) }
+    requires stands { Stands walk.now (Stage.Post separator (Rise.Cut page right)) (N.world nodes.old) }
+    requires shown { N.shows nodes.old page }
     ensures stepped { Stepped walk.now result.0 (N.world nodes.old) (N.world nodes.new) }
     ensures rule { IsTurned result.1 walk.now (N.world nodes.old) (N.world nodes.new) (N.left nodes.old) (N.left nodes.new) (Stage.Post separator (Rise.Cut page right)) result.0 }
     ensures keys { KeepsKeys (N.world nodes.old) (N.world nodes.new) }
@@ -183,38 +137,18 @@ pub(crate) fn cut_above<N: Nodes>(
     ensures busy { OnBusy result.1 (IsInTheWay (N.flushes nodes.old) (N.world nodes.old) walk.now.op) }
     ensures cause { CausedTurn result.1 (N.faults nodes.old) (N.faults nodes.new) (N.halted nodes.old) (N.halted nodes.new) }
 {
-    let mut node = Node::new(0, 0, true, 1);
-    let seen = nodes.look(walk.op, page, &mut node);
-    if !is_done(&seen) {
-        return (
-            Stage::Post {
-                separator,
-                rise: Rise::Cut { page, right },
-            },
-            seen,
-        );
-    }
-    if !is_full(&node) {
+    nodes.node(page).copy_into(node);
+    if !is_full(node) {
         let fault = nodes.bad(page);
-        return (
-            Stage::Post {
-                separator,
-                rise: Rise::Cut { page, right },
-            },
-            Turn::Refused(fault),
-        );
+        let rise = Rise::Cut { page, right };
+        return (Stage::Post { separator, rise }, Turn::Refused(fault));
     }
     let low = node.pair(alloc, node.count() / 2);
     node.cut(right);
-    let edited = nodes.edit(walk.op, page, &node, Mark::NONE);
+    let edited = nodes.edit(walk.op, page, node, Mark::NONE);
     if !is_done(&edited) {
-        return (
-            Stage::Post {
-                separator,
-                rise: Rise::Cut { page, right },
-            },
-            edited,
-        );
+        let rise = Rise::Cut { page, right };
+        return (Stage::Post { separator, rise }, edited);
     }
     let next = Some(Separator {
         low,
@@ -223,20 +157,10 @@ pub(crate) fn cut_above<N: Nodes>(
     });
     if node.covers(&separator.low) {
         nodes.free(walk.op, right);
-        return (
-            Stage::Post {
-                separator,
-                rise: Rise::Held { page, next },
-            },
-            Turn::More,
-        );
+        let rise = Rise::Held { page, next };
+        return (Stage::Post { separator, rise }, Turn::More);
     }
     nodes.free(walk.op, page);
-    (
-        Stage::Post {
-            separator,
-            rise: Rise::Held { page: right, next },
-        },
-        Turn::More,
-    )
+    let rise = Rise::Held { page: right, next };
+    (Stage::Post { separator, rise }, Turn::More)
 }

@@ -1,18 +1,18 @@
 //! Taking a pair: the leaf found, made the operation's own, and written without the pair.
 
-ghost use Rattle.std.specs.Prelude.{◌≡◌, ◌≤◌, ◌==◌, ◌&&◌, IsTrue, false, true, length};
+ghost use Rattle.std.specs.Prelude.{◌≡◌, ◌≤◌, ◌==◌, ◌&&◌, IsTrue, IfSome, false, true, length};
 ghost use Rattle.ct_node.specs.Places.{is_past};
 ghost use Rattle.ct_node.specs.Worlds.{Holds, page_at};
 ghost use Rattle.ct_node.specs.Turns.{OnDone, OnBusy, CausedTurn, OnMore};
 ghost use Rattle.ct_tree_laws.specs.Stands.{Stands, Stepped, HasNone};
 ghost use Rattle.ct_tree.specs.Answers.{IsPair, TakesKeys, TellsTaken, TakenKeys, IsTaken, IsInTheWay, IsTaking, TakeGoesOn, BearsTake, BearsTaken};
 ghost use Rattle.ct_tree.specs.Rules.{IsTurned};
-ghost use Rattle.ct_tree.specs.Moves.{spot_of, moves_after};
+ghost use Rattle.ct_tree.specs.Moves.{looked_at, spot_of, moves_after};
 ghost use Rattle.ct_tree.specs.Counted.{IsCounted};
 ghost use Rattle.ct_tree.specs.Ends.{left_of, IsLess};
 
-use crate::descent::{answer_with, find_leaf, is_done, is_for};
-use crate::moves::{circle_at, moves_after, spot_of};
+use crate::descent::{answer_with, find_leaf, is_done, is_for, visit};
+use crate::moves::{circle_at, looked_at, moves_after, spot_of};
 use ct_disk::Turn;
 use ct_node::{Mark, Node, Nodes, Place, Root, Target};
 use ct_tree_laws::{Stage, Walk};
@@ -105,10 +105,39 @@ fn take_step<N: Nodes>(
     ensures busy { OnBusy result.1 (IsInTheWay (N.flushes nodes.old) (N.world nodes.old) walk.now.op) }
     ensures cause { CausedTurn result.1 (N.faults nodes.old) (N.faults nodes.new) (N.halted nodes.old) (N.halted nodes.new) }
 {
+    let seen = visit(walk.op, looked_at(&stage), nodes);
+    if !is_done(&seen) {
+        return (stage, seen, false);
+    }
+    take_seen(walk, mark, stage, nodes, node)
+}
+
+/// The turn of a take at a stage, once the page that it looks at is at hand.
+fn take_seen<N: Nodes>(
+    walk: &Walk,
+    mark: Mark,
+    stage: Stage,
+    nodes: &mut N,
+    node: &mut Node,
+) -> (Stage, Turn<()>, bool)
+    requires stands { Stands walk.now stage (N.world nodes.old) }
+    requires pair { IsPair walk.now.target }
+    requires open { IsTaking stage }
+    requires mark { N.allows nodes.old walk.now.op mark }
+    requires shown { IfSome (looked_at stage) (N.shows nodes.old) }
+    ensures stepped { Stepped walk.now result.0 (N.world nodes.old) (N.world nodes.new) }
+    ensures rule { IsTurned result.1 walk.now (N.world nodes.old) (N.world nodes.new) (N.left nodes.old) (N.left nodes.new) stage result.0 }
+    ensures keys { TakesKeys walk.now result.1 (N.world nodes.old) (N.world nodes.new) }
+    ensures found { TellsTaken walk.now result.1 result.2 (N.world nodes.old) }
+    ensures goes { TakeGoesOn result.1 result.0 }
+    ensures bears { BearsTake mark result.1 result.2 (N.marked nodes.old) (N.marked nodes.new) }
+    ensures busy { OnBusy result.1 (IsInTheWay (N.flushes nodes.old) (N.world nodes.old) walk.now.op) }
+    ensures cause { CausedTurn result.1 (N.faults nodes.old) (N.faults nodes.new) (N.halted nodes.old) (N.halted nodes.new) }
+{
     if let Stage::Held { page } = stage {
         return take_held(walk, mark, nodes, page, node);
     }
-    let step = find_leaf(walk, stage, nodes, node);
+    let step = find_leaf(walk, stage, nodes);
     (step.0, step.1, false)
 }
 
@@ -124,6 +153,7 @@ pub(crate) fn take_held<N: Nodes>(
     requires stands { Stands walk.now (Stage.Held page) (N.world nodes.old) }
     requires pair { IsPair walk.now.target }
     requires mark { N.allows nodes.old walk.now.op mark }
+    requires shown { N.shows nodes.old page }
     ensures stepped { Stepped walk.now result.0 (N.world nodes.old) (N.world nodes.new) }
     ensures rule { IsTurned result.1 walk.now (N.world nodes.old) (N.world nodes.new) (N.left nodes.old) (N.left nodes.new) (Stage.Held page) result.0 }
     ensures keys { TakesKeys walk.now result.1 (N.world nodes.old) (N.world nodes.new) }
@@ -133,10 +163,7 @@ pub(crate) fn take_held<N: Nodes>(
     ensures busy { OnBusy result.1 (IsInTheWay (N.flushes nodes.old) (N.world nodes.old) walk.now.op) }
     ensures cause { CausedTurn result.1 (N.faults nodes.old) (N.faults nodes.new) (N.halted nodes.old) (N.halted nodes.new) }
 {
-    let seen = nodes.look(walk.op, page, node);
-    if !is_done(&seen) {
-        return (Stage::Held { page }, seen, false);
-    }
+    nodes.node(page).copy_into(node);
     match node.next_place(&walk.target) {
         Place::Right(right) => {
             nodes.free(walk.op, page);

@@ -164,10 +164,11 @@ fn levels(nodes: &mut MemNodes) -> usize {
     if let Turn::Done(root) = nodes.root(0, FIRST) {
         page = root;
     }
-    let mut node = Node::new(0, 0, true, 1);
     for level in 0..10 {
-        let _seen = nodes.look(0, page, &mut node);
-        match node.next_place(&Target::First) {
+        if !matches!(nodes.look(0, page), Turn::Done(())) {
+            return level;
+        }
+        match nodes.node(page).next_place(&Target::First) {
             Place::Down(below) => page = below,
             _ => return level + 1,
         }
@@ -181,9 +182,11 @@ pub(crate) fn pairs(nodes: &mut MemNodes) -> usize
 {
     let mut page = 1;
     let mut count: usize = 0;
-    let mut node = Node::new(0, 0, true, 1);
     for _leaf in 0..1000 {
-        let _seen = nodes.look(0, page, &mut node);
+        if !matches!(nodes.look(0, page), Turn::Done(())) {
+            return count;
+        }
+        let node = nodes.node(page);
         count = count.saturating_add(node.count());
         match node.next_place(&Target::Last) {
             Place::Right(right) => page = right,

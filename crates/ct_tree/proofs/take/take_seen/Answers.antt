@@ -1,6 +1,6 @@
 use Rattle.std.proofs.Common.{false}
 use Rattle.ct_tree.proofs.Done.{takes_going, taken_going, take_goes_going, finding_from, bears_take_going}
-use Rattle.ct_tree.proofs.take.take_step.Goals as goal
+use Rattle.ct_tree.proofs.take.take_seen.Goals as goal
 
 pub find_leaf-step-requires-clause-finding : goal.find_leaf-step-requires-clause-finding
 find_leaf-step-requires-clause-finding g c = finding_from c.args.stage c.requires.open (λ page one. absurd (c.in_default.not-Held page one))

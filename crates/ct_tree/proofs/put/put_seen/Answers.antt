@@ -1,6 +1,6 @@
 use Rattle.std.proofs.Common.{inl}
 use Rattle.ct_tree.proofs.Done.{puts_going, goes_going, bears_put_going}
-use Rattle.ct_tree.proofs.put.put_step.Goals as goal
+use Rattle.ct_tree.proofs.put.put_seen.Goals as goal
 
 pub returns-in-Start-clause-keys : goal.returns-in-Start-clause-keys
 returns-in-Start-clause-keys g c = puts_going c.args.walk.now c.start.result.1 (g.N.Nodes.world c.args.nodes.now) (g.N.Nodes.world c.start.new.nodes) c.start.ensures.going c.start.ensures.keys
