@@ -4,6 +4,7 @@ pub mod Places
 pub mod Stored
 pub mod Halves
 pub mod Pages
+pub mod Reaches
 pub mod Roles
 pub mod Worlds
 pub mod Turns

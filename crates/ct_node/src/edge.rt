@@ -1,7 +1,7 @@
 //! The pair at which a node begins or ends, kept in the node itself.
 
 ghost use Rattle.std.specs.Prelude.{◌≡◌, ℕ, ◌≤◌, ◌+◌, length, drop, option_map};
-ghost use Rattle.std.specs.Ordering.{is_eq};
+ghost use Rattle.std.specs.Ordering.{is_lt, is_eq};
 ghost use Rattle.ct_definitions.specs.Pairs.{pair_cmp};
 ghost use Rattle.ct_node.specs.Cells.{pair_at};
 ghost use Rattle.ct_node.specs.Stored.{edge_pair};
@@ -54,6 +54,18 @@ impl Edge {
             Ordering::Less => Ordering::Less,
             Ordering::Equal => self.num.cmp(&pair.num),
             Ordering::Greater => Ordering::Greater,
+        }
+    }
+
+    /// Whether it is below another one with a key of the same length.
+    pub(crate) fn is_below(&self, other: &Edge, key_len: usize) -> bool
+        requires { key_len ≤ 128 }
+        ensures { result ≡ is_lt (pair_cmp (edge_pair key_len self.now) (edge_pair key_len other.now)) }
+    {
+        match self.key[..key_len].cmp(&other.key[..key_len]) {
+            Ordering::Less => true,
+            Ordering::Equal => self.num < other.num,
+            Ordering::Greater => false,
         }
     }
 

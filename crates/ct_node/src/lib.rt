@@ -14,6 +14,7 @@ mod nodes;
 #[cfg(test)]
 mod page_tests;
 mod pair;
+mod reach;
 mod root;
 mod target;
 #[cfg(test)]
@@ -24,5 +25,6 @@ pub use mem_nodes::MemNodes;
 pub use node::Node;
 pub use nodes::Nodes;
 pub use pair::Pair;
+pub use reach::Reach;
 pub use root::{IndexRow, Mark, Owner, Root};
 pub use target::{Place, Target};

@@ -9,10 +9,12 @@ ghost use Rattle.ct_page.specs.declared.kind.PageKind.TheVariants.{Leaf, Inner};
 ghost use Rattle.ct_page.specs.Fields.{u64_at};
 ghost use Rattle.ct_page.specs.Headers.{has_fields};
 ghost use Rattle.ct_node.specs.Nodes.{IsNode, pairs_in, capacity_of, is_from, is_below, is_within, has_pair, with_entry, has_other_pair};
+ghost use Rattle.ct_node.specs.declared.target.Target.TheVariants.{At, Before};
 ghost use Rattle.ct_node.specs.Cells.{cells_of, pair_at, with_bytes};
 ghost use Rattle.ct_node.specs.Places.{is_before, is_past, is_ahead, here, down, next_place, begins_below};
 ghost use Rattle.ct_node.specs.Halves.{middle_of, upper_half, lower_half};
 ghost use Rattle.ct_node.specs.Roles.{begins_at_low};
+ghost use Rattle.ct_node.specs.Reaches.{is_in_role, is_same_bound, rises, is_known, is_of_kind, reach_here, reach_right, reach_half, reach_below, low_below, reach_next};
 ghost use Rattle.ct_node.specs.Pages.{node_in, header_in, page_text};
 
 use crate::bounds::{cells_at, high_at, read_bound, write_bound};
@@ -23,6 +25,7 @@ use crate::cells::{
 use crate::check::{count_in, is_leaf, is_node_page, key_len_in};
 use crate::edge::{Edge, first_of};
 use crate::pair::Pair;
+use crate::reach::Reach;
 use crate::target::{Place, Target};
 use ct_page::{HEADER_SIZE, Header, PAGE_SIZE, PageKind, u16_at, u64_at};
 use std::alloc::Global;
@@ -182,6 +185,16 @@ impl Node {
         }
     }
 
+    /// The pair at which it ends, where it is not open to the right. It takes no memory.
+    fn high(&self, alloc: Global) -> Option<Pair>
+        ensures { result ≡ self.now.high }
+    {
+        match self.high {
+            Some(high) => Some(high.pair(alloc, self.key_len)),
+            None => None,
+        }
+    }
+
     /// The page to the right, or 0 where there is none.
     pub fn right(&self) -> u64
         ensures { result ≡ self.now.right }
@@ -259,6 +272,116 @@ impl Node {
             return self.leaf;
         }
         first_of(self.low).is_at(self.cells.as_slice(), self.key_len)
+    }
+
+    /// Whether it is in its role, as the way that leads to its page tells.
+    pub fn is_in_role(&self, reach: &Reach) -> bool
+        ensures { result ≡ is_in_role reach.now self.now }
+    {
+        is_known_file(reach.file, self.file)
+            && reach.index == self.index
+            && is_of_kind(reach.leaf, self.leaf)
+            && is_known_length(reach.key_len, self.key_len)
+            && self.begins_at(&reach.low)
+            && self.rises()
+            && self.begins_at_low()
+    }
+
+    /// Whether a bound is its low one.
+    fn begins_at(&self, bound: &Option<Pair>) -> bool
+        ensures { result ≡ is_same_bound self.now.low bound.now }
+    {
+        let Some(low) = self.low else {
+            return bound.is_none();
+        };
+        match bound {
+            Some(pair) => low.cmp_pair(self.key_len, pair).is_eq(),
+            None => false,
+        }
+    }
+
+    /// Whether its low bound is below its high one.
+    fn rises(&self) -> bool
+        ensures { result ≡ rises self.now.low self.now.high }
+    {
+        let Some(low) = self.low else {
+            return true;
+        };
+        match self.high {
+            Some(high) => low.is_below(&high, self.key_len),
+            None => true,
+        }
+    }
+
+    /// The way to its page, now that it was looked at. It takes no memory.
+    pub fn reach_here(&self, alloc: Global) -> Reach
+        ensures { result ≡ reach_here self.now }
+    {
+        Reach {
+            file: Some(self.file),
+            index: self.index,
+            leaf: Some(self.leaf),
+            key_len: Some(self.key_len),
+            low: self.low(alloc),
+        }
+    }
+
+    /// The way to the page to the right. It takes no memory.
+    pub fn reach_right(&self, alloc: Global) -> Reach
+        ensures { result ≡ reach_right self.now }
+    {
+        Reach {
+            file: Some(self.file),
+            index: self.index,
+            leaf: Some(self.leaf),
+            key_len: Some(self.key_len),
+            low: self.high(alloc),
+        }
+    }
+
+    /// The way to the page of the right half, where the node is to be cut. It takes no memory.
+    pub fn reach_half(&self, alloc: Global) -> Reach
+        ensures { result ≡ reach_half self.now }
+    {
+        let middle = self.count() / 2;
+        let low = if middle < self.count() {
+            Some(self.pair(alloc, middle))
+        } else {
+            None
+        };
+        Reach {
+            file: Some(self.file),
+            index: self.index,
+            leaf: Some(self.leaf),
+            key_len: Some(self.key_len),
+            low,
+        }
+    }
+
+    /// The way to the page below of the entry at a place. It takes no memory.
+    fn reach_below(&self, alloc: Global, place: usize) -> Reach
+        ensures { result ≡ reach_below self.now place }
+    {
+        Reach {
+            file: Some(self.file),
+            index: self.index,
+            leaf: None,
+            key_len: Some(self.key_len),
+            low: self.low_below(alloc, place),
+        }
+    }
+
+    /// The low bound of the page below of the entry at a place.
+    fn low_below(&self, alloc: Global, place: usize) -> Option<Pair>
+        ensures { result ≡ low_below self.now place }
+    {
+        if place == 0 {
+            return self.low(alloc);
+        }
+        if place >= self.count() {
+            return None;
+        }
+        Some(self.pair(alloc, place))
     }
 
     /// Puts a pair into a leaf.
@@ -412,6 +535,59 @@ impl Node {
         self.below(reached.saturating_sub(1))
     }
 
+    /// The way to the page at which the walk to a target goes on. It takes no memory.
+    pub fn reach_next(&self, alloc: Global, target: &Target) -> Reach
+        ensures { result ≡ reach_next self.now target.now }
+    {
+        if self.is_past(target) {
+            return self.reach_right(alloc);
+        }
+        if self.leaf {
+            return self.reach_here(alloc);
+        }
+        let ahead = self.count_ahead(target, true);
+        self.reach_below(alloc, ahead.saturating_sub(1))
+    }
+
+    /// The way to the page at which the walk to a pair goes on. It takes no memory.
+    pub fn reach_next_at(&self, alloc: Global, pair: &Pair) -> Reach
+        ensures { result ≡ reach_next self.now (At pair.now) }
+    {
+        if !self.is_below(pair) {
+            return self.reach_right(alloc);
+        }
+        if self.leaf {
+            return self.reach_here(alloc);
+        }
+        let ahead = self.count_before(pair, true);
+        self.reach_below(alloc, ahead.saturating_sub(1))
+    }
+
+    /// The way to the page at which the walk to the node that ends at a pair goes on. It takes no
+    /// memory.
+    pub fn reach_next_before(&self, alloc: Global, pair: &Pair) -> Reach
+        ensures { result ≡ reach_next self.now (Before pair.now) }
+    {
+        if self.ends_below(pair) {
+            return self.reach_right(alloc);
+        }
+        if self.leaf {
+            return self.reach_here(alloc);
+        }
+        let ahead = self.count_before(pair, false);
+        self.reach_below(alloc, ahead.saturating_sub(1))
+    }
+
+    /// Whether its high bound is below a pair.
+    fn ends_below(&self, pair: &Pair) -> bool
+        ensures { result ≡ is_past self.now.high (Before pair.now) }
+    {
+        let Some(high) = self.high else {
+            return false;
+        };
+        high.cmp_pair(self.key_len, pair).is_lt()
+    }
+
     /// Whether a target is at or above the high bound.
     fn is_past(&self, target: &Target) -> bool
         ensures { result ≡ is_past self.now.high target.now }
@@ -476,6 +652,36 @@ impl Node {
         let width = width_of(self.key_len, self.leaf);
         let behind = place * width + self.key_len + 8;
         Place::Down(page_at(self.cells.as_slice(), behind))
+    }
+}
+
+/// Whether a file is the one that is known, where one is.
+fn is_known_file(known: Option<u16>, file: u16) -> bool
+    ensures { result ≡ is_known known file }
+{
+    match known {
+        Some(known) => known == file,
+        None => true,
+    }
+}
+
+/// Whether a key length is the one that is known, where one is.
+fn is_known_length(known: Option<usize>, key_len: usize) -> bool
+    ensures { result ≡ is_known known key_len }
+{
+    match known {
+        Some(known) => known == key_len,
+        None => true,
+    }
+}
+
+/// Whether a node is a leaf or not, as is known, where it is.
+fn is_of_kind(known: Option<bool>, leaf: bool) -> bool
+    ensures { result ≡ is_of_kind known leaf }
+{
+    match known {
+        Some(known) => known == leaf,
+        None => true,
     }
 }
 

@@ -1,7 +1,7 @@
 -- A walk that goes on from a page of a tree comes to one that is onward, and its count stands.
-use Rattle.std.proofs.Common.{◌≡◌, ℕ, suc, ◌+◌, ◌-◌, ◌<◌, List, [], ◌∷◌, length, Bool, true, false, eqb, refl, sym, ap, ◌∙◌, arith, subst, inl, inr, ⊎_elim, ◌⊎◌, Option, Some, None}
-use Rattle.std.specs.Prelude.{IsTrue, IfSome, slice_get, ◌&&◌, ◌||◌, not, if◌then◌else◌}
-use Rattle.std.proofs.lemmas.Bool.{cases_Bool, false≢true, eqb-true, lt-ltb}
+use Rattle.std.proofs.Common.{◌≡◌, ℕ, suc, ◌+◌, ◌<◌, List, [], ◌∷◌, length, Bool, true, false, eqb, refl, sym, ap, ◌∙◌, arith, subst, inl, inr, ⊎_elim, ◌⊎◌, Option, Some, None}
+use Rattle.std.specs.Prelude.{IsTrue, IfSome, ◌&&◌, ◌||◌, not, if◌then◌else◌}
+use Rattle.std.proofs.lemmas.Bool.{false≢true, eqb-true, lt-ltb}
 use Rattle.std.specs.Ordering.{is_lt}
 use Rattle.ct_definitions.specs.Pairs.{Pair, pair_cmp}
 use Rattle.ct_node.specs.declared.root.Root.{Root}
@@ -9,9 +9,8 @@ use Rattle.ct_node.specs.declared.target.Target.{Target}
 use Rattle.ct_node.specs.declared.target.Target.TheVariants.{At, Before, Last}
 use Rattle.ct_node.specs.declared.target.Place.{Place}
 use Rattle.ct_node.specs.declared.target.Place.TheVariants.{Right, Down, Here, End}
-use Rattle.ct_node.specs.Nodes.{NodeValue, Entry, pairs_in}
-use Rattle.std.specs.List.{prefix_len}
-use Rattle.ct_node.specs.Places.{next_place, is_past, is_ahead, down, begins_below}
+use Rattle.ct_node.specs.Nodes.{NodeValue}
+use Rattle.ct_node.specs.Places.{next_place, is_past, is_ahead, begins_below}
 use Rattle.ct_node.specs.Worlds.{World, Holds, page_at}
 use Rattle.ct_disk.specs.declared.turn.Turn.{Turn}
 use Rattle.ct_disk.specs.declared.turn.Turn.TheVariants.{Done, More, Busy, Refused}
@@ -28,10 +27,10 @@ use Rattle.ct_tree_laws.specs.Stands.{StandsIn, Stands, Stepped, IsPacked, Keeps
 use Rattle.ct_tree_laws.proofs.Chains.{one_node}
 use Rattle.ct_tree_laws.proofs.Turns.{not_founded}
 use Rattle.ct_tree_laws.proofs.PostingTurns.{held_past}
-use Rattle.ct_tree_laws.proofs.Walking.{right_at_of, seen_near, near_down, down_above, next_past, next_leaf, next_inner, here_or_end}
+use Rattle.ct_tree_laws.proofs.Walking.{right_at_of, goes_past, seen_near, near_down, down_above}
 use Rattle.ct_tree.specs.declared.moves.Spot.{Spot}
 use Rattle.ct_tree.specs.Moves.{spot_of, moves_after, circle_at}
-use Rattle.ct_tree.specs.Rules.{leads_to, is_full, IsRightOf, IsDownOf, IsNext, IsPastOf, GoesLeft, GoesUp, Goes, Waits, IsTurned}
+use Rattle.ct_tree.specs.Rules.{leads_to, is_full, IsRightOf, IsDownOf, IsNext, IsPastOf, GoesLeft, GoesToward, GoesUp, Goes, Waits, IsTurned}
 use Rattle.ct_tree.specs.Counted.{IsOnward, IsPath, IsCountedAt, IsCounted}
 use Rattle.ct_tree.proofs.Paths.{path_kept, onward_kept, not_onward, counted_may_move}
 use Rattle.ct_tree.proofs.Lefts.{comes, moves_stay}
@@ -59,25 +58,6 @@ past_onward w at t leaves leaf low target page node tree place is past =
       there = record { tree = t; leaf = node.leaf; at = found.1; level_is = level.2.right (record { low = Some found.0; page = node.right }) (ap (link_by node.right) high) };
       onward = inr (refl, lower);
     }
-
-not_down : (found : Option Entry) (q : ℕ) → down found ≡ Right q → ⊥
-not_down None q is = let both : End ≡ Right q = is in absurd (cc)
-not_down (Some entry) q is = let both : Down entry.child ≡ Right q = is in absurd (cc)
-
-goes_past : (node : NodeValue) (target : Target) (q : ℕ) → next_place node target ≡ Right q → (is_past node.high target ≡ true) × (node.right ≡ q)
-goes_past node target q is = ⊎_elim past on (cases_Bool (is_past node.high target))
-  where
-    past : is_past node.high target ≡ true → (is_past node.high target ≡ true) × (node.right ≡ q)
-    past over = (over, (let both : Right node.right ≡ Right q = sym (next_past node target over) ∙ is in cc))
-
-    on : is_past node.high target ≡ false → (is_past node.high target ≡ true) × (node.right ≡ q)
-    on within = ⊎_elim
-        (λ leaf. ⊎_elim
-        (λ at_pair. absurd (let both : Here (prefix_len (is_ahead false target) (pairs_in node)) ≡ Right q = sym at_pair ∙ sym (next_leaf node target within leaf) ∙ is in cc))
-        (λ at_end. absurd (let both : End ≡ Right q = sym at_end ∙ sym (next_leaf node target within leaf) ∙ is in cc))
-        (here_or_end (pairs_in node) (prefix_len (is_ahead false target) (pairs_in node))))
-        (λ inner. absurd (not_down (slice_get node.entries (prefix_len (is_ahead true target) (pairs_in node) - 1)) q (sym (next_inner node target within inner) ∙ is)))
-        (cases_Bool node.leaf)
 
 pub right_onward : (w : World) (at : Root) (t : Tree) (leaves : List ℕ) (leaf : Bool) (low : Option Pair) (target : Target) (page next : ℕ) → IsTree w at t leaves → IsAt w t leaf low page → IsRightOf w target page next → IsOnward w page next
 right_onward w at t leaves leaf low target page next tree place (node, is, goes) =
@@ -135,13 +115,19 @@ above_onward : (walk : Walk) (w : World) (separator : Separator) (page : ℕ) (n
 above_onward walk w separator page next right here (node, is, outside, one) =
     subst (IsOnward w page) (sym one) (past_onward w walk.at here.tree here.leaves false here.place.1.1.0 (At separator.low) page node here.is here.place.1.1.1 is (held_past walk separator page next node w is outside here))
 
+-- on the way to a separator, to a next page or up
+toward_counts : (w now : World) (separator : Separator) (page next : ℕ) (above last : Option ℕ) (to : Stage) (moves : ℕ) → KeepsLevels w now → KeepsAt w now → (next ≡ page → ⊥) → IsOnward w page next → GoesToward separator next last to → IsCountedAt w (spot_of (stage.Post separator (rise.Down page above))) moves → Counts (stage.Post separator (rise.Down page above)) moves now to
+toward_counts w now separator page next above last to moves levels keeps differ on toward counted =
+    ⊎_elim (λ is. subst (Counts (stage.Post separator (rise.Down page above)) moves now) (sym is) (came w now page next moves levels keeps differ on counted))
+    (λ (over, told, is). subst (Counts (stage.Post separator (rise.Down page above)) moves now) (sym is) ([], refl, tt)) toward
+
 rise_counts : (walk : Walk) (w now : World) (separator : Separator) (rise : Rise) (to : Stage) (moves : ℕ) → StandsIn walk (stage.Post separator rise) w → KeepsLevels w now → KeepsAt w now → GoesUp walk w now separator rise to → IsCountedAt w (spot_of (stage.Post separator rise)) moves → Counts (stage.Post separator rise) moves now to
 rise_counts walk w now separator rise.Root to moves here levels keeps (same, (page, root, goes)) none =
     ⊎_elim (λ is. subst (Counts (stage.Post separator rise.Root) moves now) (sym is) none) (λ is. subst (Counts (stage.Post separator rise.Root) moves now) (sym is) ([], sym none, tt)) goes
 rise_counts walk w now separator (rise.Down page above) to moves here levels keeps (same, goes) counted =
     ⊎_elim (λ is. subst (Counts (stage.Post separator (rise.Down page above)) moves now) (sym is) refl)
-    (λ on. ⊎_elim (λ (next, over, leads, is). subst (Counts (stage.Post separator (rise.Down page above)) moves now) (sym is) (came w now page next moves levels keeps leads.1 (next_onward w walk.at here.tree here.leaves (At separator.low) page next here.is here.place.1.1 leads) counted))
-    (λ (over, is). subst (Counts (stage.Post separator (rise.Down page above)) moves now) (sym is) ([], refl, tt)) on) goes
+    (λ on. ⊎_elim (λ (next, leads, differ, toward). toward_counts w now separator page next above above to moves levels keeps differ (right_onward w walk.at here.tree here.leaves here.place.1.1.0 here.place.1.1.1 (At separator.low) page next here.is here.place.1.1.2 leads) toward counted)
+    (λ (next, leads, differ, toward). toward_counts w now separator page next above (Some page) to moves levels keeps differ (down_onward w walk.at here.tree here.leaves (At separator.low) page next here.is here.place.1.1 leads) toward counted) on) goes
 rise_counts walk w now separator (rise.Above page) to moves here levels keeps (same, is) counted = subst (Counts (stage.Post separator (rise.Above page)) moves now) (sym is) (stayed_on w now page moves levels keeps counted)
 rise_counts walk w now separator (rise.Held page None) to moves here levels keeps goes counted =
     ⊎_elim (λ (posts, is). subst (Counts (stage.Post separator (rise.Held page None)) moves now) (sym is) refl)
@@ -155,7 +141,7 @@ rise_counts walk w now separator (rise.Held page (Some next)) to moves here leve
 rise_counts walk w now separator (rise.Full page) to moves here levels keeps (more, is) counted = subst (Counts (stage.Post separator (rise.Full page)) moves now) (sym is) (stayed_on w now page moves levels keeps counted)
 rise_counts walk w now separator (rise.Fresh page right) to moves here levels keeps (same, is) counted = subst (Counts (stage.Post separator (rise.Fresh page right)) moves now) (sym is) (stayed_on w now page moves levels keeps counted)
 rise_counts walk w now separator (rise.Split page right) to moves here levels keeps (wrote, is) counted = subst (Counts (stage.Post separator (rise.Split page right)) moves now) (sym is) (stayed_on w now page moves levels keeps counted)
-rise_counts walk w now separator (rise.Cut page right) to moves here levels keeps (leaf, cuts, (half, next, is)) counted = subst (Counts (stage.Post separator (rise.Cut page right)) moves now) (sym is) refl
+rise_counts walk w now separator (rise.Cut page right) to moves here levels keeps (leaf, cuts, (half, next, node, which, child, told, low, is)) counted = subst (Counts (stage.Post separator (rise.Cut page right)) moves now) (sym is) refl
 rise_counts walk w now separator rise.Again to moves here levels keeps (same, is) none = subst (Counts (stage.Post separator rise.Again) moves now) (sym is) none
 rise_counts walk w now separator rise.Named to moves here levels keeps (same, (page, root, goes)) none =
     ⊎_elim (λ is. subst (Counts (stage.Post separator rise.Named) moves now) (sym is) none) (λ is. subst (Counts (stage.Post separator rise.Named) moves now) (sym is) ([], sym none, tt)) goes

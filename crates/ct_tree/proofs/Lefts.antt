@@ -27,7 +27,7 @@ use Rattle.ct_tree_laws.specs.declared.rise.Rise.{Rise}
 use Rattle.ct_tree_laws.specs.declared.rise.Rise.TheVariants as rise
 use Rattle.ct_tree.specs.declared.moves.Spot.{Spot}
 use Rattle.ct_tree.specs.Moves.{spot_of, moves_after, circle_at, MayMove}
-use Rattle.ct_tree.specs.Rules.{Visits, Allocates, Writes, NamesRoot, is_full, CutsFull, BeginsBelow, GoesLeft, GoesUp, Goes, Waits, IsOneTurn, IsTurned}
+use Rattle.ct_tree.specs.Rules.{Visits, Allocates, Writes, NamesRoot, is_full, CutsFull, BeginsBelow, GoesLeft, GoesToward, GoesUp, Goes, Waits, IsOneTurn, IsTurned}
 use Rattle.ct_tree.specs.Ends.{has_full_leaf, has_full_inner, has_low_below, full_leaves, full_inner, nodes_below, left_of, IsLess}
 use Rattle.ct_tree.proofs.Counts.{count_by-set_no, count_by-set_fewer, count_by-set_same, count_by-append_no, count_by-fewer}
 
@@ -174,6 +174,13 @@ left_falls walk w now low or_at (way.Shared page) to moves before after same goe
 rise_same : {P : Type 0} (n : ℕ) (w now : World) → Visits w now → P → (full_leaves now < full_leaves w) ⊎ ((full_leaves now ≡ full_leaves w) × ((n < n) ⊎ ((n ≡ n) × ((full_inner now < full_inner w) ⊎ ((full_inner now ≡ full_inner w) × P)))))
 rise_same n w now same rest = inr (leaves_same w now same, inr (refl, inr (inner_same w now same, rest)))
 
+-- on the way to a separator, to a next page or up
+toward_falls : (walk : Walk) (w now : World) (separator : Separator) (page next : ℕ) (above last : Option ℕ) (to : Stage) (moves before after : ℕ) → Visits w now → (next ≡ page → ⊥) → GoesToward separator next last to → MayMove (stage.Post separator (rise.Down page above)) moves w → Falls (stage.Post separator (rise.Down page above)) moves w before now after to
+toward_falls walk w now separator page next above last to moves before after same differ toward room =
+    ⊎_elim (λ is. subst (Falls (stage.Post separator (rise.Down page above)) moves w before now after) (sym is)
+    (rise_same 1 w now same (inr (refl, inr (refl, inr (refl, inl (subst (λ n. length now.pages - n < length w.pages - moves) (sym (comes page next moves differ)) (moved w now moves same room))))))))
+    (λ (over, told, is). subst (Falls (stage.Post separator (rise.Down page above)) moves w before now after) (sym is) (rise_same 1 w now same (inr (refl, inr (refl, inl (omega arith)))))) toward
+
 -- in the posting of a separator
 rise_falls : (walk : Walk) (w now : World) (separator : Separator) (rise : Rise) (to : Stage) (moves before after : ℕ) → GoesUp walk w now separator rise to → MayMove (stage.Post separator rise) moves w → Falls (stage.Post separator rise) moves w before now after to
 rise_falls walk w now separator rise.Root to moves before after (same, (page, root, goes)) room =
@@ -181,9 +188,8 @@ rise_falls walk w now separator rise.Root to moves before after (same, (page, ro
     (λ is. subst (Falls (stage.Post separator rise.Root) moves w before now after) (sym is) (rise_same 1 w now same (inr (refl, inr (refl, inl (omega arith)))))) goes
 rise_falls walk w now separator (rise.Down page above) to moves before after (same, goes) room =
     ⊎_elim (λ is. subst (Falls (stage.Post separator (rise.Down page above)) moves w before now after) (sym is) (inr (leaves_same w now same, inl (omega arith))))
-    (λ on. ⊎_elim (λ (next, over, leads, is). subst (Falls (stage.Post separator (rise.Down page above)) moves w before now after) (sym is)
-    (rise_same 1 w now same (inr (refl, inr (refl, inr (refl, inl (subst (λ n. length now.pages - n < length w.pages - moves) (sym (comes page next moves leads.1)) (moved w now moves same room))))))))
-    (λ (over, is). subst (Falls (stage.Post separator (rise.Down page above)) moves w before now after) (sym is) (rise_same 1 w now same (inr (refl, inr (refl, inl (omega arith)))))) on) goes
+    (λ on. ⊎_elim (λ (next, leads, differ, toward). toward_falls walk w now separator page next above above to moves before after same differ toward room)
+    (λ (next, leads, differ, toward). toward_falls walk w now separator page next above (Some page) to moves before after same differ toward room) on) goes
 rise_falls walk w now separator (rise.Above page) to moves before after (same, is) room =
     subst (Falls (stage.Post separator (rise.Above page)) moves w before now after) (sym is) (rise_same 1 w now same (inr (refl, inr (refl, inr (refl, inr (stayed w now moves same, inl (omega arith)))))))
 rise_falls walk w now separator (rise.Held page None) to moves before after goes room =
@@ -212,9 +218,9 @@ rise_falls walk w now separator (rise.Split page right) to moves before after ((
       first (full_inner now) (full_inner w) (written_inner right (upper_half node) w now (no_full_inner (upper_half node) room_left) written)
           (inr (refl, inr (refl, inr (refl, inr (written_stayed right (upper_half node) w now moves written, inl (omega arith)))))),
     )))
-rise_falls walk w now separator (rise.Cut page right) to moves before after (true, cuts, (half, next, is)) room =
+rise_falls walk w now separator (rise.Cut page right) to moves before after (true, cuts, (half, next, node, which, child, told, low, is)) room =
     subst (Falls (stage.Post separator (rise.Cut page right)) moves w before now after) (sym is) (inl (cut_leaf page right w now cuts))
-rise_falls walk w now separator (rise.Cut page right) to moves before after (false, cuts, (half, next, is)) room =
+rise_falls walk w now separator (rise.Cut page right) to moves before after (false, cuts, (half, next, node, which, child, told, low, is)) room =
     subst (Falls (stage.Post separator (rise.Cut page right)) moves w before now after) (sym is)
     (first (full_leaves now) (full_leaves w) (cut_inner_leaves page right w now cuts) (inr (refl, inl (cut_inner page right w now cuts))))
 rise_falls walk w now separator rise.Again to moves before after (same, is) room =

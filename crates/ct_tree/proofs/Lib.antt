@@ -1,3 +1,4 @@
+pub mod Descents
 pub mod Done
 pub mod Programs
 pub mod Lists
@@ -8,3 +9,8 @@ pub mod Lefts
 pub mod OneTurn
 pub mod Paths
 pub mod Counting
+pub mod RolesWays
+pub mod RolesLeft
+pub mod RolesPost
+pub mod RolesDown
+pub mod Coming

@@ -15,10 +15,12 @@ use Rattle.ct_tree_laws.specs.declared.walk.Stage.{Stage}
 use Rattle.ct_tree.specs.declared.program.Program.{Program}
 use Rattle.ct_tree.specs.Moves.{spot_of}
 use Rattle.ct_tree.specs.Counted.{IsCounted}
+use Rattle.ct_tree.specs.Roles.{HasCome}
 use Rattle.ct_tree.proofs.Counting.{counted_kept}
+use Rattle.ct_tree.proofs.Coming.{come_kept}
 use Rattle.ct_tree.specs.declared.program.Answer.{Answer}
 use Rattle.ct_tree.specs.declared.program.Happened.{Happened}
-use Rattle.ct_tree.specs.Schedules.{Task, walk_of, stage_of, moves_of, task_of, op_of, IsReady, IsStanding, AllStand, HaveOwnNumbers, Happens, HappensAt, Runs, places_of}
+use Rattle.ct_tree.specs.Schedules.{Task, walk_of, stage_of, moves_of, ways_of, task_of, op_of, IsReady, IsStanding, AllStand, HaveOwnNumbers, Happens, HappensAt, Runs, places_of}
 
 -- what the turn of one leaves of it stays of all
 pub map-turned : {B : Type 0} (f : Program → B) (programs : List Program) (place : ℕ) (p q : Program) → place < length programs → p ≡ get_or programs place p → f q ≡ f p → map f (set programs place q) ≡ map f programs
@@ -34,14 +36,14 @@ turned_ready programs place q within ready all k d inside = ⊎_elim
 op_at : (programs : List Program) (k : ℕ) (d : Program) → k < length programs → get_or (map op_of programs) k 0 ≡ op_of (get_or programs k d)
 op_at programs k d inside = get_or-map op_of programs k d 0 inside
 
-pub turned_stand : (programs : List Program) (place : ℕ) (p q : Program) (w now : World) → place < length programs → p ≡ get_or programs place p → HaveOwnNumbers programs → walk_of q ≡ walk_of p → Stepped (walk_of p) (stage_of q) w now → IsCounted (stage_of q) (moves_of q) now → AllStand programs w → AllStand (set programs place q) now
-turned_stand programs place p q w now within is own same stepped counted all k d inside = ⊎_elim here elsewhere (cases_eq k place)
+pub turned_stand : (programs : List Program) (place : ℕ) (p q : Program) (w now : World) → place < length programs → p ≡ get_or programs place p → HaveOwnNumbers programs → walk_of q ≡ walk_of p → Stepped (walk_of p) (stage_of q) w now → IsCounted (stage_of q) (moves_of q) now → HasCome (stage_of q) (ways_of q) now → AllStand programs w → AllStand (set programs place q) now
+turned_stand programs place p q w now within is own same stepped counted come all k d inside = ⊎_elim here elsewhere (cases_eq k place)
   where
     here : k ≡ place → IsStanding now (get_or (set programs place q) k d)
     here one =
         let there : get_or (set programs place q) k d ≡ q = ap (λ j. get_or (set programs place q) j d) one ∙ get_or-set_same programs place q d within in
         let stands : Stands (walk_of q) (stage_of q) now = subst (λ walk. Stands walk (stage_of q) now) (sym same) stepped.stands in
-        subst (IsStanding now) (sym there) (stands, counted)
+        subst (IsStanding now) (sym there) (stands, counted, come)
 
     others_count : (at : Stage) (moves : ℕ) → IsCounted at moves w → IsCounted at moves now
     others_count at moves counts founded = let begun : IsTrue w.founded = sym stepped.founded ∙ founded in counted_kept w now (spot_of at) moves (stepped.levels begun) (stepped.at begun) (counts begun)
@@ -53,7 +55,7 @@ turned_stand programs place p q w now within is own same stepped counted all k d
         let inside_old : k < length programs = omega arith in
         let other : (walk_of (get_or programs k d)).op ≡ (walk_of p).op → ⊥ = λ one. differ (own k place inside_old within (op_at programs k d inside_old ∙ one ∙ ap op_of is ∙ sym (op_at programs place p within))) in
         let was = all k d inside_old in
-        subst (IsStanding now) (sym there) (stepped.keeps (walk_of (get_or programs k d)) (stage_of (get_or programs k d)) other was.0, others_count (stage_of (get_or programs k d)) (moves_of (get_or programs k d)) was.1)
+        subst (IsStanding now) (sym there) (stepped.keeps (walk_of (get_or programs k d)) (stage_of (get_or programs k d)) other was.0, others_count (stage_of (get_or programs k d)) (moves_of (get_or programs k d)) was.1, come_kept (walk_of p) (stage_of q) (stage_of (get_or programs k d)) (ways_of (get_or programs k d)) w now stepped was.2)
 
 pub happens_at : (programs : List Program) (place : ℕ) (p : Program) (turn : Turn Answer) (w now : World) → place < length programs → p ≡ get_or programs place p → (IsTrue w.founded → (at : Root) (keys : List Pair) → Chain w at keys → (later : List Pair) × Happens at (task_of p) turn keys later × Chain now at later) → IsTrue w.founded → (at : Root) (keys : List Pair) → Chain w at keys → (later : List Pair) × HappensAt at (slice_get (map task_of programs) place) turn keys later × Chain now at later
 happens_at programs place p turn w now within is happens founded at keys chain =

@@ -22,7 +22,7 @@ use Rattle.ct_definitions.specs.Pairs.{Pair}
 use Rattle.ct_node.specs.declared.target.Target.TheVariants.{At}
 use Rattle.ct_node.specs.Roles.{begins_at_low}
 use Rattle.ct_tree.specs.Answers.{is_done, is_above_for, answer_with}
-use Rattle.ct_tree.specs.Rules.{Visits, IsOneTurn, IsTurned, IsNext, is_full, Writes, NamesRoot, Posts, leaves_room, GivesWay, leads_to}
+use Rattle.ct_tree.specs.Rules.{Visits, IsOneTurn, IsTurned, IsRightOf, IsDownOf, GoesToward, GoesUp, is_full, Writes, NamesRoot, Posts, leaves_room, GivesWay, leads_to}
 use Rattle.ct_tree.proofs.Done.{after_done}
 
 -- the first call of a turn was not done
@@ -82,12 +82,16 @@ edited_pages turn op page node holds w edit now done after freed = ap (λ (v : W
 pub named_pages : (turn : Turn (Unit {0})) (op : ℕ) (at : Root) (page : ℕ) (holds : List Hold) (w named now : World) → is_done turn ≡ true → After turn (λ _. rooted op at page w) w named → now ≡ with_holds holds named → NamesRoot at page w now
 named_pages turn op at page holds w named now done after freed = ap (λ (v : World). v.pages) freed ∙ ap (λ (v : World). v.pages) (after_done turn (λ _. rooted op at page w) w named done after)
 
--- where a walk to a separator goes on
-pub way_goes : (walk : Walk) (s : Separator) (low : Pair) (page next : ℕ) (above : Option ℕ) (w : World) (to : Stage) → low ≡ s.low → IsNext w (At s.low) page next → ((to ≡ stage.Start) ⊎ ((to ≡ stage.Post (record { low = low; child = s.child; left = s.left }) (rise.Down next above)) ⊎ ((over : ℕ) × (to ≡ stage.Post (record { low = low; child = s.child; left = s.left }) (rise.Above over))))) → ((to ≡ stage.Start) ⊎ (((next : ℕ) × (over : Option ℕ) × IsNext w (At s.low) page next × (to ≡ stage.Post s (rise.Down next over))) ⊎ ((over : ℕ) × (to ≡ stage.Post s (rise.Above over)))))
-way_goes walk s low page next above w to same leads goes =
-    ⊎_elim (λ is. inl is)
-    (λ on. inr (⊎_elim (λ is. inl (next, above, leads, is ∙ ap (λ (l : Pair). stage.Post (record { low = l; child = s.child; left = s.left }) (rise.Down next above)) same))
-    (λ (over, is). inr (over, is ∙ ap (λ (l : Pair). stage.Post (record { low = l; child = s.child; left = s.left }) (rise.Above over)) same)) on)) goes
+-- a walk to a separator ends, or goes on to the right or down
+module _ (walk : Walk) (s : Separator) (low : Pair) (page next : ℕ) (above : Option ℕ) (w : World) (to : Stage) (same : low ≡ s.low) (differ : next ≡ page → ⊥) where
+  abbrev Ends : Option ℕ → Pair → Type 0
+  Ends last bound = (to ≡ stage.Start) ⊎ GoesToward (record { low = bound; child = s.child; left = s.left }) next last to
+
+  pub goes_right : IsRightOf w (At s.low) page next → Ends above low → GoesUp walk w w s (rise.Down page above) to
+  goes_right leads goes = (refl, ⊎_elim (λ is. inl is) (λ toward. inr (inl (next, leads, differ, toward))) (subst (Ends above) same goes))
+
+  pub goes_down : IsDownOf w (At s.low) page next → Ends (Some page) low → GoesUp walk w w s (rise.Down page above) to
+  goes_down leads goes = (refl, ⊎_elim (λ is. inl is) (λ toward. inr (inr (next, leads, differ, toward))) (subst (Ends (Some page)) same goes))
 
 pub inner_of : (node : NodeValue) (pair : Pair) → is_above_for node pair ≡ true → node.leaf ≡ false
 inner_of node pair is = not-true node.leaf (and_parts (not node.leaf) (eqb node.key_len (length pair.key)) (and_parts (not node.leaf && eqb node.key_len (length pair.key)) (begins_at_low node) is).0).0

@@ -1,5 +1,5 @@
 -- How much is left of a call: numbers of which the first that differs decides.
-use Rattle.std.specs.Prelude.{◌≡◌, ℕ, ◌-◌, ◌<◌, List, [], ◌∷◌, length, Bool, false, ◌&&◌, not, Some, None, ◌⊎◌}
+use Rattle.std.specs.Prelude.{◌≡◌, ℕ, suc, ◌-◌, ◌<◌, List, [], ◌∷◌, length, Bool, false, ◌&&◌, not, Some, None, ◌⊎◌}
 use Rattle.std.specs.List.{count_by}
 use Rattle.ct_definitions.specs.Pairs.{Pair}
 use Rattle.ct_node.specs.Places.{begins_below}
@@ -164,3 +164,7 @@ abbrev pub IsLess : List ℕ → List ℕ → Type 0
 IsLess [] ys = ⊥
 IsLess (x ∷ xs) [] = ⊥
 IsLess (x ∷ xs) (y ∷ ys) = (x < y) ⊎ ((x ≡ y) × IsLess xs ys)
+
+-- in these lists of so many numbers each is less than the one before
+abbrev pub IsDescent : ℕ → (ℕ → List ℕ) → Type 0
+IsDescent n chain = (k : ℕ) → (length (chain k) ≡ n) × IsLess (chain (suc k)) (chain k)

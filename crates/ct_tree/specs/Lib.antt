@@ -6,5 +6,6 @@ pub use Rattle.ct_node.specs.Turns
 pub mod Schedules
 pub mod Moves
 pub mod Rules
+pub mod Roles
 pub mod Ends
 pub mod Counted

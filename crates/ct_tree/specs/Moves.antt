@@ -65,42 +65,30 @@ spot_of stage.Ended = None
 
 -- the page that a search to the left looks at on its way to the next leaf
 abbrev pub looked_on : Way → Option ℕ
-looked_on way.Start = None
 looked_on (way.Down page) = Some page
-looked_on (way.Leaf page) = None
 looked_on (way.Shared page) = Some page
+looked_on other = None
 
 -- the page that is looked at in the posting of a separator
 abbrev pub looked_in : Separator → Rise → Option ℕ
-looked_in separator rise.Root = None
 looked_in separator (rise.Down page above) = Some page
-looked_in separator (rise.Above page) = None
 looked_in separator (rise.Held page next) = Some page
-looked_in separator (rise.Full page) = None
-looked_in separator (rise.Fresh page right) = None
 looked_in separator (rise.Split page right) = Some page
 looked_in separator (rise.Cut page right) = Some page
-looked_in separator rise.Again = None
-looked_in separator rise.Named = None
-looked_in separator rise.Grow = None
 looked_in separator (rise.Crown root) = Some separator.left
-looked_in separator (rise.Crowned root) = None
+looked_in separator other = None
 
 -- the page that an operation looks at in its turn, if it looks at one
 abbrev pub looked_at : Stage → Option ℕ
-looked_at stage.Start = None
 looked_at (stage.Down page) = Some page
-looked_at (stage.Leaf page) = None
 looked_at (stage.Held page) = Some page
-looked_at (stage.Full page) = None
 looked_at (stage.Split page right) = Some page
 looked_at (stage.Cut page right) = Some page
-looked_at (stage.Share page above) = None
 looked_at (stage.Shared page above) = Some page
 looked_at (stage.SharedLeft page) = Some page
 looked_at (stage.Left low or_at way) = looked_on way
 looked_at (stage.Post separator rise) = looked_in separator rise
-looked_at stage.Ended = None
+looked_at other = None
 
 -- whether a walk has not moved: it waits at the page that it had come to
 abbrev pub waits : Spot → Spot → Bool

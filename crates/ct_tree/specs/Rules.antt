@@ -1,5 +1,5 @@
 -- How a turn goes on: where the operation is afterwards, and the one thing that it did to the pages.
-use Rattle.std.specs.Prelude.{◌≡◌, ℕ, ◌≤◌, ◌<◌, [], ◌∷◌, ◌++◌, length, slice_set, Bool, true, false, not, nat_lt, ◌==◌, Option, Some, None, ◌⊎◌}
+use Rattle.std.specs.Prelude.{◌≡◌, ℕ, ◌≤◌, ◌<◌, [], ◌∷◌, ◌++◌, length, slice_get, slice_set, Bool, true, false, not, nat_lt, ◌==◌, Option, Some, None, ◌⊎◌}
 use Rattle.std.specs.Ordering.{is_lt}
 use Rattle.ct_definitions.specs.Pairs.{Pair, pair_cmp}
 use Rattle.ct_node.specs.declared.root.Root.{Root}
@@ -8,9 +8,9 @@ use Rattle.ct_node.specs.declared.target.Target.{Target}
 use Rattle.ct_node.specs.declared.target.Target.TheVariants.{At, Last, Before}
 use Rattle.ct_node.specs.declared.target.Place.{Place}
 use Rattle.ct_node.specs.declared.target.Place.TheVariants.{Right, Down, Here, End}
-use Rattle.ct_node.specs.Nodes.{NodeValue, IsNode, is_within, capacity_of}
+use Rattle.ct_node.specs.Nodes.{NodeValue, IsNode, pairs_in, is_within, capacity_of}
 use Rattle.ct_node.specs.Places.{next_place}
-use Rattle.ct_node.specs.Halves.{upper_half, lower_half}
+use Rattle.ct_node.specs.Halves.{middle_of, upper_half, lower_half}
 use Rattle.ct_node.specs.Worlds.{World, Blank, Holds, page_at, row_in, rooted_page}
 use Rattle.ct_disk.specs.declared.turn.Turn.{Turn}
 use Rattle.ct_disk.specs.declared.turn.Turn.TheVariants.{Done, More, Busy, Refused}
@@ -108,16 +108,24 @@ GoesLeft walk w low or_at (way.Down page) to = ((next : ℕ) × IsNext w (Before
 GoesLeft walk w low or_at (way.Leaf page) to = to ≡ stage.Left low or_at (way.Shared page)
 GoesLeft walk w low or_at (way.Shared page) to = ((next : ℕ) × IsRightOf w (Before low) page next × (to ≡ stage.Left low or_at (way.Down next))) ⊎ ((lower : Pair) × BeginsBelow w page lower low × (to ≡ stage.Left lower or_at way.Start))
 
+-- on the way to a separator, from a node to a next page: on to that, or, where it is the separator's own, up to the node from which the walk last went down
+abbrev pub GoesToward : Separator → ℕ → Option ℕ → Stage → Type 0
+GoesToward separator next above to = (to ≡ stage.Post separator (rise.Down next above)) ⊎ ((over : ℕ) × (above ≡ Some over) × (to ≡ stage.Post separator (rise.Above over)))
+
+-- the half of a split that is kept is the left page or the right one; the next separator leads to the right one, and is the pair that was the middle one
+abbrev pub KeepsHalf : World → Separator → ℕ → ℕ → Stage → Type 0
+KeepsHalf w separator page right to = (half : ℕ) × (next : Separator) × (node : NodeValue) × ((half ≡ page) ⊎ (half ≡ right)) × (next.child ≡ right) × (page_at w page ≡ Holds node) × (slice_get (pairs_in node) (middle_of node) ≡ Some next.low) × (to ≡ stage.Post separator (rise.Held half (Some next)))
+
 -- in the posting of a separator
 abbrev pub GoesUp : Walk → World → World → Separator → Rise → Stage → Type 0
 GoesUp walk w now separator rise.Root to = Visits w now × ((page : ℕ) × IsRoot walk.at page w × ((to ≡ stage.Post separator rise.Again) ⊎ (to ≡ stage.Post separator (rise.Down page None))))
-GoesUp walk w now separator (rise.Down page above) to = Visits w now × ((to ≡ stage.Start) ⊎ (((next : ℕ) × (over : Option ℕ) × IsNext w (At separator.low) page next × (to ≡ stage.Post separator (rise.Down next over))) ⊎ ((over : ℕ) × (to ≡ stage.Post separator (rise.Above over)))))
+GoesUp walk w now separator (rise.Down page above) to = Visits w now × ((to ≡ stage.Start) ⊎ (((next : ℕ) × IsRightOf w (At separator.low) page next × (next ≡ page → ⊥) × GoesToward separator next above to) ⊎ ((next : ℕ) × IsDownOf w (At separator.low) page next × (next ≡ page → ⊥) × GoesToward separator next (Some page) to)))
 GoesUp walk w now separator (rise.Above page) to = Visits w now × (to ≡ stage.Post separator (rise.Held page None))
 GoesUp walk w now separator (rise.Held page next) to = (Posts page next w now × (to ≡ after_post next)) ⊎ (Visits w now × (((right : ℕ) × IsPastOf w separator.low page right × (to ≡ stage.Post separator (rise.Above right))) ⊎ (to ≡ stage.Post separator (rise.Full page))))
 GoesUp walk w now separator (rise.Full page) to = Allocates w now × (to ≡ stage.Post separator (rise.Fresh page (length w.pages)))
 GoesUp walk w now separator (rise.Fresh page right) to = Visits w now × (to ≡ stage.Post separator (rise.Split page right))
 GoesUp walk w now separator (rise.Split page right) to = WritesUpper page right w now × (to ≡ stage.Post separator (rise.Cut page right))
-GoesUp walk w now separator (rise.Cut page right) to = (leaf : Bool) × CutsFull leaf page right w now × ((half : ℕ) × (next : Separator) × (to ≡ stage.Post separator (rise.Held half (Some next))))
+GoesUp walk w now separator (rise.Cut page right) to = (leaf : Bool) × CutsFull leaf page right w now × KeepsHalf w separator page right to
 GoesUp walk w now separator rise.Again to = Visits w now × (to ≡ stage.Post separator rise.Named)
 GoesUp walk w now separator rise.Named to = Visits w now × ((page : ℕ) × IsRoot walk.at page w × ((to ≡ stage.Post separator rise.Grow) ⊎ (to ≡ stage.Post separator (rise.Down page None))))
 GoesUp walk w now separator rise.Grow to = Allocates w now × (to ≡ stage.Post separator (rise.Crown (length w.pages)))

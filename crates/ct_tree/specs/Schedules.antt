@@ -20,6 +20,8 @@ use Rattle.ct_tree.specs.declared.program.Happened.{Happened}
 use Rattle.ct_tree.specs.Answers.{IsPair, put_at, take_at, has_at, IsPutting, IsTaking, found_by, IsSearchingBy}
 use Rattle.ct_tree.specs.declared.seek.Seek.{Seek}
 use Rattle.ct_tree.specs.Counted.{IsCounted}
+use Rattle.ct_tree.specs.declared.roles.Ways.{Ways}
+use Rattle.ct_tree.specs.Roles.{HasCome}
 
 -- what an operation is to do
 pub data Task : Type 0 where
@@ -36,6 +38,11 @@ abbrev pub moves_of : Program → ℕ
 moves_of (program.Put put) = put.moves
 moves_of (program.Take take) = take.moves
 moves_of (program.Search search) = search.moves
+
+abbrev pub ways_of : Program → Ways
+ways_of (program.Put put) = put.ways
+ways_of (program.Take take) = take.ways
+ways_of (program.Search search) = search.ways
 
 abbrev pub stage_of : Program → Stage
 stage_of (program.Put put) = put.stage
@@ -83,9 +90,9 @@ is_ended (stage.Left low or_at way) = false
 is_ended (stage.Post separator rise) = false
 is_ended stage.Ended = true
 
--- what an operation remembers stands, and its moves are counted
+-- what an operation remembers stands, its moves are counted, and its page stands as it has come there
 abbrev pub IsStanding : World → Program → Type 0
-IsStanding w program = Stands (walk_of program) (stage_of program) w × IsCounted (stage_of program) (moves_of program) w
+IsStanding w program = Stands (walk_of program) (stage_of program) w × IsCounted (stage_of program) (moves_of program) w × HasCome (stage_of program) (ways_of program) w
 
 -- so it is of all these operations
 abbrev pub AllStand : List Program → World → Type 0

@@ -4,12 +4,13 @@ ghost use Rattle.std.specs.Prelude.{◌≡◌, ◌==◌, ◌&&◌, IsTrue, IfSom
 ghost use Rattle.ct_node.specs.Turns.{OnDone, OnBusy, CausedTurn, LeavesLess};
 ghost use Rattle.ct_node.specs.declared.root.Mark.{Mark};
 ghost use Rattle.ct_tree.specs.Moves.{looked_at};
+ghost use Rattle.ct_tree.specs.Roles.{HasRole};
 ghost use Rattle.ct_tree_laws.specs.Stands.{Stands, Stepped, KeepsKeys};
 ghost use Rattle.ct_tree.specs.Answers.{is_done, IsInTheWay, IsPutting, IsTaking, IsFinding, IsSearching, answer_with, is_for};
 ghost use Rattle.ct_tree.specs.Rules.{IsTurned, leads_to};
 
 use ct_disk::Turn;
-use ct_node::{Node, Nodes, Pair, Place};
+use ct_node::{Node, Nodes, Pair, Place, Reach};
 use ct_tree_laws::{Stage, Walk};
 
 /// Whether a turn has ended its call.
@@ -24,21 +25,54 @@ pub(crate) fn is_done(turn: &Turn<()>) -> bool
     }
 }
 
-/// Looks at a page, if there is one to be looked at.
-pub(crate) fn visit<N: Nodes>(op: u64, page: Option<u64>, nodes: &mut N) -> Turn<()>
+/// Looks at a page, if there is one to be looked at. A node that is outside its role is refused.
+pub(crate) fn visit<N: Nodes>(op: u64, page: Option<u64>, reach: &Reach, nodes: &mut N) -> Turn<()>
+    requires { IsTrue (N.world nodes.old).founded → HasRole page reach.now (N.world nodes.old) }
     ensures shown { OnDone result (λ _. IfSome page (N.shows nodes.new)) }
+    ensures role { OnDone result (λ _. HasRole page reach.now (N.world nodes.old)) }
     ensures marked { N.marked nodes.new ≡ N.marked nodes.old }
     ensures world { N.world nodes.new ≡ N.world nodes.old }
     ensures busy { OnBusy result (λ other. N.flushes nodes.old ≡ Some other) }
     ensures flushes { OnDone result (λ _. N.flushes nodes.new ≡ N.flushes nodes.old) }
-    ensures marks { (mark : Mark) → N.allows nodes.old op mark → N.allows nodes.new op mark }
+    ensures marks { OnDone result (λ _. (mark : Mark) → N.allows nodes.old op mark → N.allows nodes.new op mark) }
     ensures left { LeavesLess result (N.left nodes.old) (N.left nodes.new) }
     ensures cause { CausedTurn result (N.faults nodes.old) (N.faults nodes.new) (N.halted nodes.old) (N.halted nodes.new) }
 {
     let Some(page) = page else {
         return Turn::Done(());
     };
-    nodes.look(op, page)
+    let seen = nodes.look(op, page);
+    if !is_done(&seen) {
+        return seen;
+    }
+    if !nodes.node(page).is_in_role(reach) {
+        return Turn::Refused(nodes.bad(page));
+    }
+    seen
+}
+
+/// What a turn leaves: the stage, the answer, what is told with it, and the way from the page that
+/// was looked at.
+#[derive(Drop)]
+pub(crate) struct Step<T> {
+    pub(crate) stage: Stage,
+    pub(crate) turn: Turn<()>,
+    pub(crate) told: T,
+    pub(crate) on: Reach,
+}
+
+/// A turn that stays at its stage.
+pub(crate) fn stays<T: Drop>(walk: &Walk, stage: Stage, turn: Turn<()>, told: T) -> Step<T>
+    ensures stage { result.stage ≡ stage }
+    ensures turn { result.turn ≡ turn }
+    ensures told { result.told ≡ told }
+{
+    Step {
+        stage,
+        turn,
+        told,
+        on: Reach::root(walk.at, &walk.target),
+    }
 }
 
 /// Reads the root.

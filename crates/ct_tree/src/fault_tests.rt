@@ -6,7 +6,7 @@ ghost use Rattle.ct_tree.specs.Schedules.{IsReady};
 use super::*;
 use crate::test_tree::{Shape, Stop, TestTree};
 use crate::tests::pairs;
-use ct_disk::{HaltCause, StepFault};
+use ct_disk::{HaltCause, StepFault, Turn};
 use ct_node::{Node, Nodes};
 use std::alloc::Global;
 use std::test::Fail;
@@ -212,6 +212,16 @@ enum Call {
     Find(u64, Seek),
 }
 
+/// Operations on the leaf in page 1.
+const CALLS: [Call; 6] = [
+    Call::Find(5, Seek::AtOrAbove),
+    Call::Find(5, Seek::Above),
+    Call::Find(5, Seek::AtOrBelow),
+    Call::Find(5, Seek::Below),
+    Call::Put(0),
+    Call::Take(5),
+];
+
 /// What stops an operation, if anything does.
 fn stop_of(tree: &mut TestTree, call: Call) -> Option<Stop> {
     match call {
@@ -236,32 +246,44 @@ fn stops_at(
     Ok((first, stop_of(&mut tree, Call::Find(28, Seek::AtOrAbove))))
 }
 
-/// A search answers of a leaf what stands in it, so a leaf for keys of another length stops changes
-/// alone.
 #[test]
 fn a_damaged_page_halts_what_comes_to_it(rt: HostRuntime) -> Result<(), Fail> {
-    let searches = [
-        Call::Find(5, Seek::AtOrAbove),
-        Call::Find(5, Seek::Above),
-        Call::Find(5, Seek::AtOrBelow),
-        Call::Find(5, Seek::Below),
-    ];
-    let changes = [Call::Put(0), Call::Take(5)];
-    for (page, leaf, key_len, calls) in [
-        (3, false, 128, searches.as_slice()),
-        (3, false, 128, changes.as_slice()),
-        (3, false, 64, searches.as_slice()),
-        (3, false, 64, changes.as_slice()),
-        (3, true, 64, changes.as_slice()),
-        (1, false, 128, searches.as_slice()),
-        (1, false, 128, changes.as_slice()),
-        (1, true, 64, changes.as_slice()),
+    for (page, leaf, key_len) in [
+        (3, false, 128),
+        (3, false, 64),
+        (3, true, 64),
+        (1, false, 128),
+        (1, true, 64),
     ] {
         let halted = Some(Stop::Refused(StepFault::Halted(HaltCause::BadPage(page))));
-        for call in calls {
-            let stops = stops_at(rt.alloc(), page, &Node::new(0, 0, leaf, key_len), *call)?;
+        for call in CALLS {
+            let stops = stops_at(rt.alloc(), page, &Node::new(0, 0, leaf, key_len), call)?;
             assert_eq!(rt; stops, (halted, halted), "{call:?}, page {page}");
         }
+    }
+    Ok(())
+}
+
+/// The node of a page.
+fn node_at(tree: &mut TestTree, page: u64) -> Result<Node, Stop> {
+    let mut node = Node::new(0, 0, true, 1);
+    match tree.nodes.look(0, page) {
+        Turn::Done(()) => tree.nodes.node(page).copy_into(&mut node),
+        _ => return Err(Stop::Endless),
+    }
+    Ok(node)
+}
+
+/// The first leaf begins elsewhere than the root says: it is the second one once more.
+#[test]
+fn a_leaf_with_another_low_bound_halts_what_comes_to_it(rt: HostRuntime) -> Result<(), Fail> {
+    let mut tree = TestTree::new(rt.alloc(), SHAPE)?;
+    tree.put_down(1, 28)?;
+    let second = node_at(&mut tree, 2)?;
+    let halted = Some(Stop::Refused(StepFault::Halted(HaltCause::BadPage(1))));
+    for call in CALLS {
+        let stops = stops_at(rt.alloc(), 1, &second, call)?;
+        assert_eq!(rt; stops, (halted, halted), "{call:?}");
     }
     Ok(())
 }

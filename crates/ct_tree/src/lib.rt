@@ -15,6 +15,7 @@ mod program;
 mod put;
 #[cfg(test)]
 mod random_tests;
+mod roles;
 mod schedule;
 mod search;
 mod seek;
@@ -37,6 +38,7 @@ pub use memory::run_in_memory;
 pub use moves::{Spot, turns_come_to_an_end, walks_go_in_no_circle};
 pub use program::{Answer, Happened, Program, turn};
 pub use put::Put;
+pub use roles::{Ways, pages_are_in_their_roles};
 pub use schedule::run;
 pub use search::Search;
 pub use seek::Seek;

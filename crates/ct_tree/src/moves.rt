@@ -1,7 +1,7 @@
 //! Where an operation is between two turns, and how many moves to another page its walk has made. A
 //! walk that has made as many moves as there are pages goes in a circle.
 
-ghost use Rattle.std.specs.Prelude.{◌≡◌, ◌<◌, ℕ, IfSome, IsTrue};
+ghost use Rattle.std.specs.Prelude.{◌≡◌, ◌<◌, ℕ, List, IfSome, IsTrue};
 ghost use Rattle.ct_tree_laws.specs.Trees.{IsApart};
 ghost use Rattle.ct_tree_laws.specs.Stands.{Stands, Stepped};
 ghost use Rattle.ct_tree.specs.Counted.{IsCounted};
@@ -10,7 +10,7 @@ ghost use Rattle.ct_tree_laws.specs.declared.walk.Walk.{Walk};
 ghost use Rattle.ct_tree_laws.specs.declared.walk.Stage.{Stage};
 ghost use Rattle.ct_tree.specs.Moves.{looked_at, looked_on, looked_in, coming, found, coming_above, found_above, spot_on, spot_in, spot_of, waits, moves_after, circle_at, MayMove};
 ghost use Rattle.ct_tree.specs.Rules.{IsOneTurn};
-ghost use Rattle.ct_tree.specs.Ends.{left_of, IsLess};
+ghost use Rattle.ct_tree.specs.Ends.{left_of, IsLess, IsDescent};
 
 use ct_tree_laws::{Rise, Separator, Stage, Way};
 
@@ -24,9 +24,11 @@ pub struct Spot {
 }
 
 /// A turn that answers `More` leaves less of its call: by the moves that its walk may make yet, by
-/// the splits that full nodes allow, or by the pages' own work.
+/// the splits that full nodes allow, or by the pages' own work. And less can't be left for
+/// ever: no endless list of such lists descends.
 pub fn turns_come_to_an_end()
     ensures less { (walk : Walk) (w now : World) (before after : ℕ) (from to : Stage) (moves : ℕ) → IsOneTurn walk w now before after from to → MayMove from moves w → IsLess (left_of to (moves_after (spot_of from) (spot_of to) moves) now after) (left_of from moves w before) }
+    ensures ends { (n : ℕ) (chain : ℕ → List ℕ) → IsDescent n chain → ⊥ }
 {}
 
 /// Where operations alone made the pages, a walk comes to no page twice: each move that is counted

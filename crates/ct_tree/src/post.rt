@@ -10,7 +10,7 @@ ghost use Rattle.ct_node.specs.Turns.{OnBusy, CausedTurn};
 ghost use Rattle.ct_tree_laws.specs.declared.walk.Walk.{Walk};
 ghost use Rattle.ct_tree_laws.specs.Stands.{Stands, Stepped, KeepsKeys, after_post};
 ghost use Rattle.ct_tree.specs.Answers.{is_done, is_above_for, IsInTheWay, IsPutting};
-ghost use Rattle.ct_tree.specs.Rules.{IsTurned, leaves_room};
+ghost use Rattle.ct_tree.specs.Rules.{IsTurned, GoesToward, leaves_room};
 ghost use Rattle.ct_tree.specs.Moves.{looked_in};
 
 use crate::crown::{allocate_root, name_again, name_root, own_definition, write_root};
@@ -167,7 +167,7 @@ fn place_of(node: &Node, pair: Pair) -> (Place, Pair)
 fn on_way(separator: Separator, page: u64, above: Option<u64>) -> Stage
     ensures stands { (walk : Walk) (w : World) → Stands walk (Stage.Post separator (Rise.Down page above)) w → Stands walk result w }
     ensures putting { IsPutting result }
-    ensures goes { (result ≡ Stage.Start) ⊎ ((result ≡ Stage.Post separator (Rise.Down page above)) ⊎ ((over : ℕ) × (result ≡ Stage.Post separator (Rise.Above over)))) }
+    ensures goes { (result ≡ Stage.Start) ⊎ GoesToward separator page above result }
 {
     if page != separator.child {
         return Stage::Post {

@@ -6,8 +6,9 @@ ghost use Rattle.ct_node.specs.declared.root.Mark.{Mark};
 ghost use Rattle.ct_definitions.specs.Pairs.{Pair};
 ghost use Rattle.ct_tree_laws.specs.Trees.{Chain};
 ghost use Rattle.ct_tree_laws.specs.Stands.{Stands, Stepped};
-ghost use Rattle.ct_tree.specs.Schedules.{walk_of, stage_of, moves_of, task_of, is_ended, IsReady, Happens, Puts, Takes, Searches};
+ghost use Rattle.ct_tree.specs.Schedules.{walk_of, stage_of, moves_of, ways_of, task_of, is_ended, IsReady, Happens, Puts, Takes, Searches};
 ghost use Rattle.ct_tree.specs.Counted.{IsCounted};
+ghost use Rattle.ct_tree.specs.Roles.{HasCome};
 ghost use Rattle.ct_tree.specs.Answers.{IsPair, IsPutting, IsTaking, IsSearchingBy};
 
 use crate::put::Put;
@@ -47,12 +48,14 @@ pub struct Happened {
 pub fn turn<N: Nodes>(program: &mut Program, nodes: &mut N) -> Turn<Answer>
     requires stands { Stands (walk_of program.old) (stage_of program.old) (N.world nodes.old) }
     requires counted { IsCounted (stage_of program.old) (moves_of program.old) (N.world nodes.old) }
+    requires come { HasCome (stage_of program.old) (ways_of program.old) (N.world nodes.old) }
     requires ready { IsReady program.old }
     requires marks { (any : N) (op : ℕ) (mark : Mark) → N.allows any op mark }
     ensures walk { walk_of program.new ≡ walk_of program.old }
     ensures task { task_of program.new ≡ task_of program.old }
     ensures ready { IsReady program.new }
     ensures counted { IsCounted (stage_of program.new) (moves_of program.new) (N.world nodes.new) }
+    ensures come { HasCome (stage_of program.new) (ways_of program.new) (N.world nodes.new) }
     ensures stepped { Stepped (walk_of program.old) (stage_of program.new) (N.world nodes.old) (N.world nodes.new) }
     ensures happens { IsTrue (N.world nodes.old).founded → (at : Root) (keys : List Pair) → Chain (N.world nodes.old) at keys → (now : List Pair) × Happens at (task_of program.old) result keys now × Chain (N.world nodes.new) at now }
 {
@@ -94,6 +97,7 @@ fn is_ended(stage: &Stage) -> bool
 fn turn_put<N: Nodes>(put: &mut Put, nodes: &mut N) -> Turn<Answer>
     requires stands { Stands put.old.walk put.old.stage (N.world nodes.old) }
     requires counted { IsCounted put.old.stage put.old.moves (N.world nodes.old) }
+    requires come { HasCome put.old.stage put.old.ways (N.world nodes.old) }
     requires pair { IsPair put.old.walk.target }
     requires ready { IsPutting put.old.stage ⊎ (put.old.stage ≡ Stage.Ended) }
     requires marks { (any : N) (op : ℕ) (mark : Mark) → N.allows any op mark }
@@ -101,6 +105,7 @@ fn turn_put<N: Nodes>(put: &mut Put, nodes: &mut N) -> Turn<Answer>
     ensures ready { IsPutting put.new.stage ⊎ (put.new.stage ≡ Stage.Ended) }
     ensures stepped { Stepped put.old.walk put.new.stage (N.world nodes.old) (N.world nodes.new) }
     ensures counted { IsCounted put.new.stage put.new.moves (N.world nodes.new) }
+    ensures come { HasCome put.new.stage put.new.ways (N.world nodes.new) }
     ensures happens { IsTrue (N.world nodes.old).founded → (at : Root) (keys : List Pair) → Chain (N.world nodes.old) at keys → (now : List Pair) × Happens at (Puts put.old.walk.at put.old.walk.target) result keys now × Chain (N.world nodes.new) at now }
 {
     if is_ended(&put.stage) {
@@ -117,6 +122,7 @@ fn turn_put<N: Nodes>(put: &mut Put, nodes: &mut N) -> Turn<Answer>
 fn turn_take<N: Nodes>(take: &mut Take, nodes: &mut N) -> Turn<Answer>
     requires stands { Stands take.old.walk take.old.stage (N.world nodes.old) }
     requires counted { IsCounted take.old.stage take.old.moves (N.world nodes.old) }
+    requires come { HasCome take.old.stage take.old.ways (N.world nodes.old) }
     requires pair { IsPair take.old.walk.target }
     requires ready { IsTaking take.old.stage ⊎ (take.old.stage ≡ Stage.Ended) }
     requires marks { (any : N) (op : ℕ) (mark : Mark) → N.allows any op mark }
@@ -124,6 +130,7 @@ fn turn_take<N: Nodes>(take: &mut Take, nodes: &mut N) -> Turn<Answer>
     ensures ready { IsTaking take.new.stage ⊎ (take.new.stage ≡ Stage.Ended) }
     ensures stepped { Stepped take.old.walk take.new.stage (N.world nodes.old) (N.world nodes.new) }
     ensures counted { IsCounted take.new.stage take.new.moves (N.world nodes.new) }
+    ensures come { HasCome take.new.stage take.new.ways (N.world nodes.new) }
     ensures happens { IsTrue (N.world nodes.old).founded → (at : Root) (keys : List Pair) → Chain (N.world nodes.old) at keys → (now : List Pair) × Happens at (Takes take.old.walk.at take.old.walk.target) result keys now × Chain (N.world nodes.new) at now }
 {
     if is_ended(&take.stage) {
@@ -140,12 +147,14 @@ fn turn_take<N: Nodes>(take: &mut Take, nodes: &mut N) -> Turn<Answer>
 fn turn_search<N: Nodes>(search: &mut Search, nodes: &mut N) -> Turn<Answer>
     requires stands { Stands search.old.walk search.old.stage (N.world nodes.old) }
     requires counted { IsCounted search.old.stage search.old.moves (N.world nodes.old) }
+    requires come { HasCome search.old.stage search.old.ways (N.world nodes.old) }
     requires ready { IsSearchingBy search.old.seek search.old.stage ⊎ (search.old.stage ≡ Stage.Ended) }
     ensures walk { search.new.walk ≡ search.old.walk }
     ensures seek { search.new.seek ≡ search.old.seek }
     ensures ready { IsSearchingBy search.new.seek search.new.stage ⊎ (search.new.stage ≡ Stage.Ended) }
     ensures stepped { Stepped search.old.walk search.new.stage (N.world nodes.old) (N.world nodes.new) }
     ensures counted { IsCounted search.new.stage search.new.moves (N.world nodes.new) }
+    ensures come { HasCome search.new.stage search.new.ways (N.world nodes.new) }
     ensures happens { IsTrue (N.world nodes.old).founded → (at : Root) (keys : List Pair) → Chain (N.world nodes.old) at keys → (now : List Pair) × Happens at (Searches search.old.walk.at search.old.walk.target search.old.seek) result keys now × Chain (N.world nodes.new) at now }
 {
     if is_ended(&search.stage) {

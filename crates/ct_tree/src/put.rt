@@ -9,14 +9,16 @@ ghost use Rattle.ct_tree.specs.Answers.{IsPair, PutsKeys, IsInTheWay, IsPutting,
 ghost use Rattle.ct_tree.specs.Rules.{IsTurned};
 ghost use Rattle.ct_tree.specs.Moves.{looked_at, spot_of, moves_after};
 ghost use Rattle.ct_tree.specs.Counted.{IsCounted};
+ghost use Rattle.ct_tree.specs.Roles.{HasRole, HasCome, Comes, StaysOutside, TellsWay};
 ghost use Rattle.ct_tree.specs.Ends.{left_of, IsLess};
 
-use crate::descent::{descend, is_done, is_for, own_leaf, start, visit};
+use crate::descent::{Step, descend, is_done, is_for, own_leaf, start, stays, visit};
 use crate::moves::{circle_at, looked_at, moves_after, spot_of};
 use crate::post::post;
+use crate::roles::{Trail, Ways, way_of};
 use crate::split::{allocate, cut_left, write_right};
 use ct_disk::Turn;
-use ct_node::{Mark, Node, Nodes, Place, Root, Target};
+use ct_node::{Mark, Node, Nodes, Place, Reach, Root, Target};
 use ct_tree_laws::{Stage, Walk};
 use std::alloc::Global;
 use std::mem::replace;
@@ -30,6 +32,7 @@ pub struct Put {
     pub stage: Stage,
     /// How many moves to another page the walk that is under way has made.
     pub moves: u64,
+    pub ways: Ways,
     node: Node,
 }
 
@@ -43,9 +46,11 @@ impl Put {
         ensures stage { result.stage ≡ Stage.Start }
         ensures moves { result.moves ≡ 0 }
     {
+        let walk = Walk { op, at, target };
         Put {
             alloc,
-            walk: Walk { op, at, target },
+            ways: Ways::new(&walk),
+            walk,
             mark,
             stage: Stage::Start,
             moves: 0,
@@ -61,12 +66,16 @@ impl Put {
         requires open { IsPutting self.old.stage }
         requires mark { N.allows nodes.old self.old.walk.op self.old.mark }
         requires counted { IsCounted self.old.stage self.old.moves (N.world nodes.old) }
+        requires come { HasCome self.old.stage self.old.ways (N.world nodes.old) }
         ensures walk { self.new.walk ≡ self.old.walk }
         ensures mark { self.new.mark ≡ self.old.mark }
         ensures stepped { Stepped self.old.walk self.new.stage (N.world nodes.old) (N.world nodes.new) }
         ensures rule { IsTurned result self.old.walk (N.world nodes.old) (N.world nodes.new) (N.left nodes.old) (N.left nodes.new) self.old.stage self.new.stage }
         ensures counted { IsCounted self.new.stage self.new.moves (N.world nodes.new) }
         ensures moves { self.new.moves ≡ moves_after (spot_of self.old.stage) (spot_of self.new.stage) self.old.moves }
+        ensures role { StaysOutside result self.old.stage self.new.stage self.old.ways.at (N.world nodes.old) }
+        ensures come { HasCome self.new.stage self.new.ways (N.world nodes.new) }
+        ensures comes { OnMore result (Comes self.old.walk (N.world nodes.old) self.old.stage self.new.stage self.old.ways self.new.ways) }
         ensures left { OnMore result (IsLess (left_of self.new.stage self.new.moves (N.world nodes.new) (N.left nodes.new)) (left_of self.old.stage self.old.moves (N.world nodes.old) (N.left nodes.old))) }
         ensures keys { PutsKeys self.old.walk result (N.world nodes.old) (N.world nodes.new) }
         ensures goes { GoesOn result self.new.stage }
@@ -80,18 +89,26 @@ impl Put {
         if let Some(page) = circle_at(from, self.moves, pages) {
             return Turn::Refused(nodes.bad(page));
         }
+        let trail = Trail::of(&self.stage);
         let stage = replace(&mut self.stage, Stage::Ended);
-        let step = put_step(
+        let Step {
+            stage,
+            turn,
+            told: _,
+            on,
+        } = put_step(
             self.alloc,
             &self.walk,
             self.mark,
             stage,
+            &self.ways.at,
             nodes,
             &mut self.node,
         );
-        self.stage = step.0;
+        self.stage = stage;
         self.moves = moves_after(from, spot_of(&self.stage), self.moves, pages);
-        step.1
+        self.ways.follow(&self.walk, trail, &turn, &self.stage, on);
+        turn
     }
 }
 
@@ -101,26 +118,37 @@ fn put_step<N: Nodes>(
     walk: &Walk,
     mark: Mark,
     stage: Stage,
+    reach: &Reach,
     nodes: &mut N,
     node: &mut Node,
-) -> (Stage, Turn<()>)
+) -> Step<()>
     requires stands { Stands walk.now stage (N.world nodes.old) }
     requires pair { IsPair walk.now.target }
     requires open { IsPutting stage }
+    requires role { IsTrue (N.world nodes.old).founded → HasRole (looked_at stage) reach.now (N.world nodes.old) }
     requires mark { N.allows nodes.old walk.now.op mark }
-    ensures stepped { Stepped walk.now result.0 (N.world nodes.old) (N.world nodes.new) }
-    ensures rule { IsTurned result.1 walk.now (N.world nodes.old) (N.world nodes.new) (N.left nodes.old) (N.left nodes.new) stage result.0 }
-    ensures keys { PutsKeys walk.now result.1 (N.world nodes.old) (N.world nodes.new) }
-    ensures goes { GoesOn result.1 result.0 }
-    ensures bears { BearsPut walk.now mark result.1 (N.world nodes.old) (N.marked nodes.old) (N.marked nodes.new) }
-    ensures busy { OnBusy result.1 (IsInTheWay (N.flushes nodes.old) (N.world nodes.old) walk.now.op) }
-    ensures cause { CausedTurn result.1 (N.faults nodes.old) (N.faults nodes.new) (N.halted nodes.old) (N.halted nodes.new) }
+    ensures stepped { Stepped walk.now result.stage (N.world nodes.old) (N.world nodes.new) }
+    ensures rule { IsTurned result.turn walk.now (N.world nodes.old) (N.world nodes.new) (N.left nodes.old) (N.left nodes.new) stage result.stage }
+    ensures role { StaysOutside result.turn stage result.stage reach.now (N.world nodes.old) }
+    ensures way { TellsWay result.turn walk.now (N.world nodes.old) stage result.stage result.on }
+    ensures keys { PutsKeys walk.now result.turn (N.world nodes.old) (N.world nodes.new) }
+    ensures goes { GoesOn result.turn result.stage }
+    ensures bears { BearsPut walk.now mark result.turn (N.world nodes.old) (N.marked nodes.old) (N.marked nodes.new) }
+    ensures busy { OnBusy result.turn (IsInTheWay (N.flushes nodes.old) (N.world nodes.old) walk.now.op) }
+    ensures cause { CausedTurn result.turn (N.faults nodes.old) (N.faults nodes.new) (N.halted nodes.old) (N.halted nodes.new) }
 {
-    let seen = visit(walk.op, looked_at(&stage), nodes);
+    let seen = visit(walk.op, looked_at(&stage), reach, nodes);
     if !is_done(&seen) {
-        return (stage, seen);
+        return stays(walk, stage, seen, ());
     }
-    put_seen(alloc, walk, mark, stage, nodes, node)
+    let on = way_of(alloc, walk, &stage, nodes);
+    let (stage, turn) = put_seen(alloc, walk, mark, stage, nodes, node);
+    Step {
+        stage,
+        turn,
+        told: (),
+        on,
+    }
 }
 
 /// The turn of a put at a stage, once the page that it looks at is at hand.

@@ -8,14 +8,16 @@ ghost use Rattle.ct_tree.specs.Answers.{is_done, TellsFound, IsFound, IsInTheWay
 ghost use Rattle.ct_tree.specs.Rules.{IsTurned, GivesWay};
 ghost use Rattle.ct_tree.specs.Moves.{looked_at, spot_of, moves_after};
 ghost use Rattle.ct_tree.specs.Counted.{IsCounted};
+ghost use Rattle.ct_tree.specs.Roles.{HasRole, HasCome, Comes, StaysOutside, TellsWay};
 ghost use Rattle.ct_tree.specs.Ends.{left_of, IsLess};
 
-use crate::descent::{answer_with, descend, is_done, start, visit};
+use crate::descent::{Step, answer_with, descend, is_done, start, stays, visit};
 use crate::left::left_step;
 use crate::moves::{circle_at, looked_at, moves_after, spot_of};
+use crate::roles::{Trail, Ways, way_of};
 use crate::seek::Seek;
 use ct_disk::Turn;
-use ct_node::{Nodes, Pair, Place, Root, Target};
+use ct_node::{Nodes, Pair, Place, Reach, Root, Target};
 use ct_tree_laws::{Stage, Walk};
 use std::alloc::Global;
 use std::mem::replace;
@@ -29,6 +31,7 @@ pub struct Search {
     pub stage: Stage,
     /// How many moves to another page the walk that is under way has made.
     pub moves: u64,
+    pub ways: Ways,
 }
 
 impl Search {
@@ -40,9 +43,11 @@ impl Search {
         ensures stage { result.stage ≡ Stage.Start }
         ensures moves { result.moves ≡ 0 }
     {
+        let walk = Walk { op, at, target };
         Search {
             alloc,
-            walk: Walk { op, at, target },
+            ways: Ways::new(&walk),
+            walk,
             seek,
             stage: Stage::Start,
             moves: 0,
@@ -56,12 +61,16 @@ impl Search {
         requires stands { Stands self.old.walk self.old.stage (N.world nodes.old) }
         requires open { IsSearchingBy self.old.seek self.old.stage }
         requires counted { IsCounted self.old.stage self.old.moves (N.world nodes.old) }
+        requires come { HasCome self.old.stage self.old.ways (N.world nodes.old) }
         ensures walk { self.new.walk ≡ self.old.walk }
         ensures seek { self.new.seek ≡ self.old.seek }
         ensures stepped { Stepped self.old.walk self.new.stage (N.world nodes.old) (N.world nodes.new) }
         ensures rule { IsTurned result self.old.walk (N.world nodes.old) (N.world nodes.new) (N.left nodes.old) (N.left nodes.new) self.old.stage self.new.stage }
         ensures counted { IsCounted self.new.stage self.new.moves (N.world nodes.new) }
         ensures moves { self.new.moves ≡ moves_after (spot_of self.old.stage) (spot_of self.new.stage) self.old.moves }
+        ensures role { StaysOutside result self.old.stage self.new.stage self.old.ways.at (N.world nodes.old) }
+        ensures come { HasCome self.new.stage self.new.ways (N.world nodes.new) }
+        ensures comes { OnMore result (Comes self.old.walk (N.world nodes.old) self.old.stage self.new.stage self.old.ways self.new.ways) }
         ensures left { OnMore result (IsLess (left_of self.new.stage self.new.moves (N.world nodes.new) (N.left nodes.new)) (left_of self.old.stage self.old.moves (N.world nodes.old) (N.left nodes.old))) }
         ensures keys { KeepsKeys (N.world nodes.old) (N.world nodes.new) }
         ensures found { IsFound self.old.walk (found_by self.old.seek) result (N.world nodes.old) }
@@ -76,11 +85,25 @@ impl Search {
         if let Some(page) = circle_at(from, self.moves, pages) {
             return Turn::Refused(nodes.bad(page));
         }
+        let trail = Trail::of(&self.stage);
         let stage = replace(&mut self.stage, Stage::Ended);
-        let step = seek_step(self.alloc, &self.walk, self.seek, stage, nodes);
-        self.stage = give_way(&self.walk, self.seek, step.0, &step.1, nodes);
+        let Step {
+            stage,
+            turn,
+            told,
+            on,
+        } = seek_step(
+            self.alloc,
+            &self.walk,
+            self.seek,
+            stage,
+            &self.ways.at,
+            nodes,
+        );
+        self.stage = give_way(&self.walk, self.seek, stage, &turn, nodes);
         self.moves = moves_after(from, spot_of(&self.stage), self.moves, pages);
-        answer_with(step.1, step.2)
+        self.ways.follow(&self.walk, trail, &turn, &self.stage, on);
+        answer_with(turn, told)
     }
 
     /// Ends the search: none of its latches stands afterwards.
@@ -91,6 +114,7 @@ impl Search {
         ensures seek { self.new.seek ≡ self.old.seek }
         ensures ended { self.new.stage ≡ Stage.Ended }
         ensures moves { self.new.moves ≡ 0 }
+        ensures come { HasCome self.new.stage self.new.ways (N.world nodes.new) }
         ensures stepped { Stepped self.old.walk self.new.stage (N.world nodes.old) (N.world nodes.new) }
         ensures keys { KeepsKeys (N.world nodes.old) (N.world nodes.new) }
         ensures given_back { HasNone self.old.walk.op (N.world nodes.new) }
@@ -109,10 +133,48 @@ fn seek_step<N: Nodes>(
     walk: &Walk,
     seek: Seek,
     stage: Stage,
+    reach: &Reach,
+    nodes: &mut N,
+) -> Step<Option<Pair>>
+    requires stands { Stands walk.now stage (N.world nodes.old) }
+    requires open { IsSearchingBy seek stage }
+    requires role { IsTrue (N.world nodes.old).founded → HasRole (looked_at stage) reach.now (N.world nodes.old) }
+    ensures stepped { Stepped walk.now result.stage (N.world nodes.old) (N.world nodes.new) }
+    ensures rule { IsTurned result.turn walk.now (N.world nodes.old) (N.world nodes.new) (N.left nodes.old) (N.left nodes.new) stage result.stage }
+    ensures role { StaysOutside result.turn stage result.stage reach.now (N.world nodes.old) }
+    ensures way { TellsWay result.turn walk.now (N.world nodes.old) stage result.stage result.on }
+    ensures keys { KeepsKeys (N.world nodes.old) (N.world nodes.new) }
+    ensures found { TellsFound walk.now (found_by seek) result.turn result.told (N.world nodes.old) }
+    ensures searching { IsSearchingBy seek result.stage }
+    ensures bears { N.marked nodes.new ≡ N.marked nodes.old }
+    ensures busy { OnBusy result.turn (IsInTheWay (N.flushes nodes.old) (N.world nodes.old) walk.now.op) }
+    ensures cause { CausedTurn result.turn (N.faults nodes.old) (N.faults nodes.new) (N.halted nodes.old) (N.halted nodes.new) }
+{
+    let seen = visit(walk.op, looked_at(&stage), reach, nodes);
+    if !is_done(&seen) {
+        return stays(walk, stage, seen, None);
+    }
+    let on = way_of(alloc, walk, &stage, nodes);
+    let (stage, turn, told) = seek_seen(alloc, walk, seek, stage, nodes);
+    Step {
+        stage,
+        turn,
+        told,
+        on,
+    }
+}
+
+/// The turn of a search at a stage, once the page that it looks at is at hand.
+fn seek_seen<N: Nodes>(
+    alloc: Global,
+    walk: &Walk,
+    seek: Seek,
+    stage: Stage,
     nodes: &mut N,
 ) -> (Stage, Turn<()>, Option<Pair>)
     requires stands { Stands walk.now stage (N.world nodes.old) }
     requires open { IsSearchingBy seek stage }
+    requires shown { IfSome (looked_at stage) (N.shows nodes.old) }
     ensures stepped { Stepped walk.now result.0 (N.world nodes.old) (N.world nodes.new) }
     ensures rule { IsTurned result.1 walk.now (N.world nodes.old) (N.world nodes.new) (N.left nodes.old) (N.left nodes.new) stage result.0 }
     ensures keys { KeepsKeys (N.world nodes.old) (N.world nodes.new) }
@@ -122,10 +184,6 @@ fn seek_step<N: Nodes>(
     ensures busy { OnBusy result.1 (IsInTheWay (N.flushes nodes.old) (N.world nodes.old) walk.now.op) }
     ensures cause { CausedTurn result.1 (N.faults nodes.old) (N.faults nodes.new) (N.halted nodes.old) (N.halted nodes.new) }
 {
-    let seen = visit(walk.op, looked_at(&stage), nodes);
-    if !is_done(&seen) {
-        return (stage, seen, None);
-    }
     match seek {
         Seek::AtOrAbove => return search_step(alloc, walk, false, stage, nodes),
         Seek::Above => return search_step(alloc, walk, true, stage, nodes),

@@ -113,7 +113,7 @@ impl TestTree {
         ensures { IfOk result IsReady }
     {
         let target = self.target(number)?;
-        Ok(Program::Take(Take::new(op, INDEX, target, Mark::NONE)))
+        Ok(Program::Take(Take::new(self.alloc, op, INDEX, target, Mark::NONE)))
     }
 
     /// A search by a new operation.

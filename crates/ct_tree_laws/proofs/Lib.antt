@@ -29,3 +29,4 @@ pub mod PostingZeros
 pub mod PostingTurns
 pub mod PostingSplits
 pub mod PostingCrowns
+pub mod Reaches

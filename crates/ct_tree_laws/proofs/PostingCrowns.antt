@@ -117,6 +117,17 @@ root_allocated walk s root w now stands new is = subst (Stepped walk (stage.Post
       ),
     )))
 
+-- the page that was split is the root
+pub root_left : (walk : Walk) (s : Separator) (w : World) (t : Tree) (leaves : List ℕ) → IsApart w → (tree : IsTree w walk.at t leaves) → HasRoot w t walk.op s → tree.row.root ≡ s.left
+root_left walk s w t leaves apart tree has =
+    let found = definition_page w walk t leaves has.def apart tree has.has in
+    let both : Some has.row ≡ Some tree.row = sym has.named ∙ ap (λ (d : DefinitionValue). slice_get d.rows t.index) found.1 ∙ ap (slice_get tree.def.rows) tree.index ∙ tree.named in
+    let row : has.row ≡ tree.row = cc in
+    ap (λ (r : IndexRow). r.root) (sym row) ∙ has.old
+
+pub root_at : (walk : Walk) (s : Separator) (w : World) (t : Tree) (leaves : List ℕ) → IsApart w → (tree : IsTree w walk.at t leaves) → HasRoot w t walk.op s → IsAt w t tree.root.0 None s.left
+root_at walk s w t leaves apart tree has = subst (IsAt w t tree.root.0 None) (root_left walk s w t leaves apart tree has) tree.root.1
+
 -- what the old root is
 record IsOld (w : World) (t : Tree) (page : ℕ) (node : NodeValue) : Type 0 where
   pub leaf : Bool
@@ -125,11 +136,7 @@ record IsOld (w : World) (t : Tree) (page : ℕ) (node : NodeValue) : Type 0 whe
 
 old_root : (walk : Walk) (s : Separator) (root : ℕ) (node : NodeValue) (w : World) → page_at w s.left ≡ Holds node → (here : StandsIn walk (stage.Post s (rise.Crown root)) w) → IsOld w here.tree s.left node
 old_root walk s root node w is here =
-    let has = here.place.1.1 in
-    let found = definition_page w walk here.tree here.leaves has.def here.apart here.is has.has in
-    let row : has.row ≡ here.is.row = (let both : Some has.row ≡ Some here.is.row = sym has.named ∙ ap (λ (d : DefinitionValue). slice_get d.rows here.tree.index) found.1 ∙ ap (slice_get here.is.def.rows) here.is.index ∙ here.is.named in cc) in
-    let left : here.is.row.root ≡ s.left = ap (λ (r : IndexRow). r.root) (sym row) ∙ has.old in
-    let at : IsAt w here.tree here.is.root.0 None s.left = subst (IsAt w here.tree here.is.root.0 None) left here.is.root.1 in
+    let at = root_at walk s w here.tree here.leaves here.apart here.is here.place.1.1 in
     record { leaf = here.is.root.0; at = at; is = one_node w s.left node at.node is at.is }
 
 pub crown_key : (walk : Walk) (s : Separator) (root : ℕ) (node : NodeValue) (w mid : World) → Stands walk (stage.Post s (rise.Crown root)) w → page_at w s.left ≡ Holds node → mid ≡ w → (node.key_len ≡ length s.low.key → ⊥) → mid.founded ≡ false

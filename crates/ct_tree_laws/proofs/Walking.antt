@@ -126,8 +126,12 @@ seen_leaf w at t leaves target page node tree near is =
     (seen_near w at t leaves target page node tree (true, near.0, near.1, near.2) is, sym (ap (λ (v : NodeValue). v.leaf) same_node) ∙ near.1.kind)
 
 -- where a walk goes right, the node ends at its target or below
-goes_right : (w : World) (t : Tree) (target : Target) (page : ℕ) (node : NodeValue) (q : ℕ) → IsSeen w t target page node → next_place node target ≡ Right q → (is_past node.high target ≡ true) × (node.right ≡ q)
-goes_right w t target page node q seen is = ⊎_elim past on (cases_Bool (is_past node.high target))
+not_down : (found : Option Entry) (q : ℕ) → down found ≡ Right q → ⊥
+not_down None q is = let both : End ≡ Right q = is in absurd (cc)
+not_down (Some entry) q is = let both : Down entry.child ≡ Right q = is in absurd (cc)
+
+pub goes_past : (node : NodeValue) (target : Target) (q : ℕ) → next_place node target ≡ Right q → (is_past node.high target ≡ true) × (node.right ≡ q)
+goes_past node target q is = ⊎_elim past on (cases_Bool (is_past node.high target))
   where
     past : is_past node.high target ≡ true → (is_past node.high target ≡ true) × (node.right ≡ q)
     past over = (over, (let both : Right node.right ≡ Right q = sym (next_past node target over) ∙ is in cc))
@@ -138,49 +142,51 @@ goes_right w t target page node q seen is = ⊎_elim past on (cases_Bool (is_pas
         (λ at_pair. absurd (let both : Here (prefix_len (is_ahead false target) (pairs_in node)) ≡ Right q = sym at_pair ∙ sym (next_leaf node target within leaf) ∙ is in cc))
         (λ at_end. absurd (let both : End ≡ Right q = sym at_end ∙ sym (next_leaf node target within leaf) ∙ is in cc))
         (here_or_end (pairs_in node) (prefix_len (is_ahead false target) (pairs_in node))))
-        (λ inner.
-        let found = below_at_of w t node target (seen.role.inner inner) seen.low in
-        absurd (let both : Down found.0.child ≡ Right q = sym (ap down found.1) ∙ sym (next_inner node target within inner) ∙ is in cc))
+        (λ inner. absurd (not_down (slice_get node.entries (prefix_len (is_ahead true target) (pairs_in node) - 1)) q (sym (next_inner node target within inner) ∙ is)))
         (cases_Bool node.leaf)
 
-pub near_right : (w : World) (t : Tree) (target : Target) (page : ℕ) (node : NodeValue) (q : ℕ) → IsSeen w t target page node → next_place node target ≡ Right q → IsNear w t target q
-near_right w t target page node q seen is =
-    let goes = goes_right w t target page node q seen is in
-    let found = right_at_of w t node target seen.role goes.0 in
-    subst (IsNear w t target) goes.1 (node.leaf, Some found.0, found.1, found.2)
-
--- where a walk goes down, an entry of an inner node leads there
-record GoesDown (w : World) (t : Tree) (target : Target) (node : NodeValue) (q : ℕ) : Type 0 where
+-- and where it goes down, an entry of an inner node leads there
+pub record LeadsDown (node : NodeValue) (target : Target) (q : ℕ) : Type 0 where
+  pub within : is_past node.high target ≡ false
   pub inner : node.leaf ≡ false
-  pub place : ℕ
   pub entry : Entry
-  pub is : slice_get node.entries place ≡ Some entry
+  pub is : slice_get node.entries (prefix_len (is_ahead true target) (pairs_in node) - 1) ≡ Some entry
   pub there : entry.child ≡ q
-  pub near : IsNear w t target entry.child
 
-goes_down : (w : World) (t : Tree) (target : Target) (page : ℕ) (node : NodeValue) (q : ℕ) → IsSeen w t target page node → next_place node target ≡ Down q → GoesDown w t target node q
-goes_down w t target page node q seen is = ⊎_elim past on (cases_Bool (is_past node.high target))
+down_to : (found : Option Entry) (q : ℕ) → down found ≡ Down q → (entry : Entry) × (found ≡ Some entry) × (entry.child ≡ q)
+down_to None q is = let both : End ≡ Down q = is in absurd (cc)
+down_to (Some entry) q is = (entry, refl, (let both : Down entry.child ≡ Down q = is in cc))
+
+pub leads_down : (node : NodeValue) (target : Target) (q : ℕ) → next_place node target ≡ Down q → LeadsDown node target q
+leads_down node target q is = ⊎_elim past on (cases_Bool (is_past node.high target))
   where
-    past : is_past node.high target ≡ true → GoesDown w t target node q
+    past : is_past node.high target ≡ true → LeadsDown node target q
     past over = absurd (let both : Right node.right ≡ Down q = sym (next_past node target over) ∙ is in cc)
 
-    on : is_past node.high target ≡ false → GoesDown w t target node q
+    on : is_past node.high target ≡ false → LeadsDown node target q
     on within = ⊎_elim
         (λ leaf. ⊎_elim
         (λ at_pair. absurd (let both : Here (prefix_len (is_ahead false target) (pairs_in node)) ≡ Down q = sym at_pair ∙ sym (next_leaf node target within leaf) ∙ is in cc))
         (λ at_end. absurd (let both : End ≡ Down q = sym at_end ∙ sym (next_leaf node target within leaf) ∙ is in cc))
         (here_or_end (pairs_in node) (prefix_len (is_ahead false target) (pairs_in node))))
         (λ inner.
-        let found = below_at_of w t node target (seen.role.inner inner) seen.low in
-        let both : Down found.0.child ≡ Down q = sym (ap down found.1) ∙ sym (next_inner node target within inner) ∙ is in
-        let same_page : found.0.child ≡ q = cc in
-        record { inner = inner; place = prefix_len (is_ahead true target) (pairs_in node) - 1; entry = found.0; is = found.1; there = same_page; near = found.2 })
+        let found = down_to (slice_get node.entries (prefix_len (is_ahead true target) (pairs_in node) - 1)) q (sym (next_inner node target within inner) ∙ is) in
+        record { within = within; inner = inner; entry = found.0; is = found.1; there = found.2 })
         (cases_Bool node.leaf)
+
+pub near_right : (w : World) (t : Tree) (target : Target) (page : ℕ) (node : NodeValue) (q : ℕ) → IsSeen w t target page node → next_place node target ≡ Right q → IsNear w t target q
+near_right w t target page node q seen is =
+    let goes = goes_past node target q is in
+    let found = right_at_of w t node target seen.role goes.0 in
+    subst (IsNear w t target) goes.1 (node.leaf, Some found.0, found.1, found.2)
 
 pub near_down : (w : World) (t : Tree) (target : Target) (page : ℕ) (node : NodeValue) (q : ℕ) → IsSeen w t target page node → next_place node target ≡ Down q → IsNear w t target q × (node.leaf ≡ false)
 near_down w t target page node q seen is =
-    let goes = goes_down w t target page node q seen is in
-    (subst (IsNear w t target) goes.there goes.near, goes.inner)
+    let goes = leads_down node target q is in
+    let found = below_at_of w t node target (seen.role.inner goes.inner) seen.low in
+    let both : Some found.0 ≡ Some goes.entry = sym found.1 ∙ goes.is in
+    let one : found.0 ≡ goes.entry = cc in
+    (subst (IsNear w t target) (ap (λ (entry : Entry). entry.child) one ∙ goes.there) found.2, goes.inner)
 
 -- the page to the right of a node that ends at a target or below is beside it
 pub past_beside : (w : World) (at : Root) (t : Tree) (leaves : List ℕ) (target : Target) (page : ℕ) (node : NodeValue) → IsTree w at t leaves → IsSeen w t target page node → is_past node.high target ≡ true → IsBeside w page node.right
@@ -191,19 +197,19 @@ past_beside w at t leaves target page node tree seen past =
 -- a walk that goes right stays on its level
 pub right_beside : (w : World) (at : Root) (t : Tree) (leaves : List ℕ) (target : Target) (page : ℕ) (node : NodeValue) (q : ℕ) → IsTree w at t leaves → IsSeen w t target page node → next_place node target ≡ Right q → IsBeside w page q
 right_beside w at t leaves target page node q tree seen is =
-    let goes = goes_right w t target page node q seen is in
+    let goes = goes_past node target q is in
     subst (IsBeside w page) goes.1 (past_beside w at t leaves target page node tree seen goes.0)
 
 -- what holds of all entries holds of one
-All-slice_get : (P : Entry → Type 0) (entries : List Entry) (k : ℕ) (entry : Entry) → All P entries → slice_get entries k ≡ Some entry → P entry
+pub All-slice_get : (P : Entry → Type 0) (entries : List Entry) (k : ℕ) (entry : Entry) → All P entries → slice_get entries k ≡ Some entry → P entry
 All-slice_get P entries k entry all is = subst P (get_or_from_slice_get entries k entry entry is) (All-get_or P entries k entry (slice_get_within entries k entry is) all)
 
 -- and one that goes down comes to the next lower level
 pub down_above : (w : World) (at : Root) (t : Tree) (leaves : List ℕ) (target : Target) (page : ℕ) (node : NodeValue) (q : ℕ) → IsTree w at t leaves → IsSeen w t target page node → next_place node target ≡ Down q → IsOneAbove w page q
 down_above w at t leaves target page node q tree seen is =
-    let goes = goes_down w t target page node q seen is in
+    let goes = leads_down node target q is in
     let lower = below_is_lower w at t leaves page node tree seen.is seen.of seen.linked goes.inner in
-    subst (IsOneAbove w page) goes.there (All-slice_get (λ (entry : Entry). IsOneAbove w page entry.child) node.entries goes.place goes.entry lower goes.is)
+    subst (IsOneAbove w page) goes.there (All-slice_get (λ (entry : Entry). IsOneAbove w page entry.child) node.entries (prefix_len (is_ahead true target) (pairs_in node) - 1) goes.entry lower goes.is)
 
 -- a walk that goes on neither right nor down has come to the target's leaf
 pub record IsLast (node : NodeValue) (target : Target) : Type 0 where

@@ -1,3 +1,4 @@
 pub mod Trees
 pub mod Left
+pub mod Reached
 pub mod Stands

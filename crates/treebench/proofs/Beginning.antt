@@ -7,6 +7,8 @@ use Rattle.ct_tree_laws.specs.declared.walk.Stage.{Stage}
 use Rattle.ct_tree_laws.specs.declared.walk.Stage.TheVariants.{Start}
 use Rattle.ct_tree_laws.specs.Stands.{Stands, Stepped}
 use Rattle.ct_tree.specs.Counted.{IsCounted}
+use Rattle.ct_tree.specs.declared.roles.Ways.{Ways}
+use Rattle.ct_tree.specs.Roles.{HasCome}
 use Rattle.treebench.specs.Begins.{IsOfLength, MayBegin}
 
 -- fewer may begin from the next number on
@@ -25,3 +27,7 @@ begins op walk w may is at key = may walk (omega (arith, is)) at key
 -- one that begins has made no moves
 pub counted_start : (at : Stage) (moves : ℕ) (w : World) → at ≡ Start → moves ≡ 0 → IsCounted at moves w
 counted_start at moves w starts still = subst (λ stage. IsCounted stage moves w) (sym starts) (λ founded. still)
+
+-- and has come to no page
+pub come_start : (at : Stage) (ways : Ways) (w : World) → at ≡ Start → HasCome at ways w
+come_start at ways w starts = subst (λ stage. HasCome stage ways w) (sym starts) (λ founded. tt, λ founded. tt)

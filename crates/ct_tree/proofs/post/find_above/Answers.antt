@@ -8,7 +8,7 @@ use Rattle.ct_tree_laws.specs.declared.rise.Separator.{Separator}
 use Rattle.ct_tree_laws.specs.declared.rise.Rise.TheVariants as rise
 use Rattle.ct_tree_laws.specs.Stands.{Stands}
 use Rattle.ct_tree_laws.proofs.PostingTurns.{way_right, way_down, way_ends, way_stepped, way_bad}
-use Rattle.ct_tree.proofs.OneTurn.{not_itself_right, not_itself_down, way_goes}
+use Rattle.ct_tree.proofs.OneTurn.{not_itself_right, not_itself_down, goes_right, goes_down}
 use Rattle.ct_tree.proofs.Counting.{no_way_back}
 use Rattle.ct_tree.proofs.post.find_above.Goals as goal
 
@@ -64,17 +64,11 @@ returns-then-leaf-clause-rule g c = inr (refl, inl refl)
 pub returns-in-Right-clause-rule : goal.returns-in-Right-clause-rule
 returns-in-Right-clause-rule g c =
     let w = g.N.Nodes.world c.args.nodes.now in
-    inr (
-      refl,
-      way_goes c.args.walk.now c.args.separator c.place_of-place.result.1 c.args.page c.in-Right.right c.args.above w c.on_way.result c.place_of-place.ensures.pair
-          (inl (c.node-node.result.now, c.node-node.ensures, sym c.place_of-place.ensures.place ∙ c.in-Right.is), not_itself_right c.args.page c.in-Right.right c.place_of-place.result.0 (cc) c.in-Right.is) c.on_way.ensures.goes,
-    )
+    inr (goes_right c.args.walk.now c.args.separator c.place_of-place.result.1 c.args.page c.in-Right.right c.args.above w c.on_way.result c.place_of-place.ensures.pair
+    (not_itself_right c.args.page c.in-Right.right c.place_of-place.result.0 (cc) c.in-Right.is) (c.node-node.result.now, c.node-node.ensures, sym c.place_of-place.ensures.place ∙ c.in-Right.is) c.on_way.ensures.goes)
 
 pub returns-in-Down-clause-rule : goal.returns-in-Down-clause-rule
 returns-in-Down-clause-rule g c =
     let w = g.N.Nodes.world c.args.nodes.now in
-    inr (
-      refl,
-      way_goes c.args.walk.now c.args.separator c.place_of-place.result.1 c.args.page c.in-Down.below (Some c.args.page) w c.on_way-in-Down.result c.place_of-place.ensures.pair
-          (inr (c.node-node.result.now, c.node-node.ensures, sym c.place_of-place.ensures.place ∙ c.in-Down.is), not_itself_down c.args.page c.in-Down.below c.place_of-place.result.0 (cc) c.in-Down.is) c.on_way-in-Down.ensures.goes,
-    )
+    inr (goes_down c.args.walk.now c.args.separator c.place_of-place.result.1 c.args.page c.in-Down.below c.args.above w c.on_way-in-Down.result c.place_of-place.ensures.pair
+    (not_itself_down c.args.page c.in-Down.below c.place_of-place.result.0 (cc) c.in-Down.is) (c.node-node.result.now, c.node-node.ensures, sym c.place_of-place.ensures.place ∙ c.in-Down.is) c.on_way-in-Down.ensures.goes)

@@ -17,3 +17,12 @@ returns-in-Take-clause-counted g c = c.turn_take.ensures.counted
 
 pub returns-in-Search-clause-counted : goal.returns-in-Search-clause-counted
 returns-in-Search-clause-counted g c = c.turn_search.ensures.counted
+
+pub returns-in-Put-clause-come : goal.returns-in-Put-clause-come
+returns-in-Put-clause-come g c = c.turn_put.ensures.come
+
+pub returns-in-Take-clause-come : goal.returns-in-Take-clause-come
+returns-in-Take-clause-come g c = c.turn_take.ensures.come
+
+pub returns-in-Search-clause-come : goal.returns-in-Search-clause-come
+returns-in-Search-clause-come g c = c.turn_search.ensures.come

@@ -7,7 +7,7 @@ use Rattle.ct_tree.proofs.schedule.turn_at.Goals as goal
 pub returns-clause-stands : goal.returns-clause-stands
 returns-clause-stands g c =
     let p = get_or c.args.programs.now c.args.place c.index-programs-place.result in
-    turned_stand c.args.programs.now c.args.place p c.turn.new.program (g.N.Nodes.world c.args.nodes.now) (g.N.Nodes.world c.turn.new.nodes) c.requires.place (ap (get_or c.args.programs.now c.args.place) c.index-programs-place.is) c.requires.numbers c.turn.ensures.walk c.turn.ensures.stepped c.turn.ensures.counted c.requires.stands
+    turned_stand c.args.programs.now c.args.place p c.turn.new.program (g.N.Nodes.world c.args.nodes.now) (g.N.Nodes.world c.turn.new.nodes) c.requires.place (ap (get_or c.args.programs.now c.args.place) c.index-programs-place.is) c.requires.numbers c.turn.ensures.walk c.turn.ensures.stepped c.turn.ensures.counted c.turn.ensures.come c.requires.stands
 
 pub returns-clause-numbers : goal.returns-clause-numbers
 returns-clause-numbers g c = map-turned op_of c.args.programs.now c.args.place (get_or c.args.programs.now c.args.place c.index-programs-place.result) c.turn.new.program c.requires.place (ap (get_or c.args.programs.now c.args.place) c.index-programs-place.is) (ap (λ (walk : Walk). walk.op) c.turn.ensures.walk)
@@ -26,3 +26,6 @@ turn-requires-clause-stands g c = (c.requires.stands c.args.place c.index-progra
 
 pub turn-requires-clause-counted : goal.turn-requires-clause-counted
 turn-requires-clause-counted g c = (c.requires.stands c.args.place c.index-programs-place.result c.requires.place).1
+
+pub turn-requires-clause-come : goal.turn-requires-clause-come
+turn-requires-clause-come g c = (c.requires.stands c.args.place c.index-programs-place.result c.requires.place).2

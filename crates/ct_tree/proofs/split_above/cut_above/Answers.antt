@@ -1,4 +1,6 @@
-use Rattle.std.proofs.Common.{◌≡◌, ℕ, ◌/◌, ◌≤◌, length, refl, ap, inr, sym, ◌∙◌, false}
+use Rattle.std.proofs.Common.{◌≡◌, ℕ, ◌/◌, ◌≤◌, length, refl, ap, inl, inr, sym, ◌∙◌, false, Some}
+use Rattle.std.specs.Prelude.{slice_get}
+use Rattle.ct_node.specs.Nodes.{pairs_in}
 use Rattle.ct_node.specs.Worlds.{Holds, page_at, edited, Cuts}
 use Rattle.ct_tree_laws.specs.declared.walk.Stage.TheVariants as stage
 use Rattle.ct_tree_laws.specs.declared.rise.Rise.TheVariants as rise
@@ -6,7 +8,7 @@ use Rattle.ct_tree_laws.proofs.Turns.{stays}
 use Rattle.ct_tree_laws.proofs.PostingZeros.{middle_low}
 use Rattle.ct_tree_laws.proofs.PostingSplits.{cuts_above, cut_above_is_tidy, cut_above_left, cut_above_right, cut_above_keys}
 use Rattle.ct_tree.proofs.Done.{after_done, after_other}
-use Rattle.ct_node.specs.Halves.{lower_half}
+use Rattle.ct_node.specs.Halves.{middle_of, lower_half}
 use Rattle.ct_tree.proofs.OneTurn.{waits_first, written_free}
 use Rattle.ct_tree.specs.Rules.{is_full}
 use Rattle.ct_tree.proofs.Counting.{above_is_full}
@@ -107,14 +109,16 @@ returns-then-covers-clause-rule g c =
     let w = g.N.Nodes.world c.args.nodes.now in
     let node = c.copy_into.new.into in
     let seen : page_at w c.args.page ≡ Holds node = c.node.ensures ∙ ap Holds (sym c.copy_into.ensures) in
-    inr (node.leaf, (node, seen, c.is_full.ensures.node, refl, cc, written_free c.edit-edited.result c.args.walk.now.op c.args.page (lower_half c.args.right node) c.cut.new.self _ w w (g.N.Nodes.world c.edit-edited.new.self) (g.N.Nodes.world c.free.new.self) (cc) refl c.cut.ensures.node c.edit-edited.ensures.world c.free.ensures.world), (c.args.page, _, refl))
+    let middle : slice_get (pairs_in node) (middle_of node) ≡ Some c.pair-low.result = ap (λ (n : ℕ). slice_get (pairs_in node) (n / 2)) (sym c.count.ensures.count) ∙ c.pair-low.ensures in
+    inr (node.leaf, (node, seen, c.is_full.ensures.node, refl, cc, written_free c.edit-edited.result c.args.walk.now.op c.args.page (lower_half c.args.right node) c.cut.new.self _ w w (g.N.Nodes.world c.edit-edited.new.self) (g.N.Nodes.world c.free.new.self) (cc) refl c.cut.ensures.node c.edit-edited.ensures.world c.free.ensures.world), (c.args.page, record { low = c.pair-low.result; child = c.args.right; left = c.args.page }, node, inl refl, refl, seen, middle, refl))
 
 pub returns-clause-rule : goal.returns-clause-rule
 returns-clause-rule g c =
     let w = g.N.Nodes.world c.args.nodes.now in
     let node = c.copy_into.new.into in
     let seen : page_at w c.args.page ≡ Holds node = c.node.ensures ∙ ap Holds (sym c.copy_into.ensures) in
-    inr (node.leaf, (node, seen, c.is_full.ensures.node, refl, cc, written_free c.edit-edited.result c.args.walk.now.op c.args.page (lower_half c.args.right node) c.cut.new.self _ w w (g.N.Nodes.world c.edit-edited.new.self) (g.N.Nodes.world c.free-2.new.self) (cc) refl c.cut.ensures.node c.edit-edited.ensures.world c.free-2.ensures.world), (c.args.right, _, refl))
+    let middle : slice_get (pairs_in node) (middle_of node) ≡ Some c.pair-low.result = ap (λ (n : ℕ). slice_get (pairs_in node) (n / 2)) (sym c.count.ensures.count) ∙ c.pair-low.ensures in
+    inr (node.leaf, (node, seen, c.is_full.ensures.node, refl, cc, written_free c.edit-edited.result c.args.walk.now.op c.args.page (lower_half c.args.right node) c.cut.new.self _ w w (g.N.Nodes.world c.edit-edited.new.self) (g.N.Nodes.world c.free-2.new.self) (cc) refl c.cut.ensures.node c.edit-edited.ensures.world c.free-2.ensures.world), (c.args.right, record { low = c.pair-low.result; child = c.args.right; left = c.args.page }, node, inr refl, refl, seen, middle, refl))
 
 pub bad-fault-requires : goal.bad-fault-requires
 bad-fault-requires g c =

@@ -19,6 +19,7 @@ loop-turn-preserved c =
       op = ap (λ (walk : Walk). walk.op) same ∙ c.loop-turn.invariant.op;
       stands = subst (λ (walk : Walk). Stands walk c.turn.new.self.stage (world_of c.turn.new.nodes)) (sym same) stepped.stands;
       counted = c.turn.ensures.counted;
+      come = c.turn.ensures.come;
       open_stage = c.turn.ensures.open;
       begins = MayBegin-kept c.args.op c.loop-turn.search.walk c.turn.new.self.stage (world_of c.loop-turn.nodes) (world_of c.turn.new.nodes) c.loop-turn.invariant.op stepped c.loop-turn.invariant.begins;
     }

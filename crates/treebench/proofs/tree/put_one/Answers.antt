@@ -19,6 +19,7 @@ loop-turn-preserved c =
       stands = subst (λ (walk : Walk). Stands walk c.turn.new.self.stage (world_of c.turn.new.nodes)) (sym same) stepped.stands;
       pair = subst (λ (walk : Walk). IsPair walk.target) (sym same) c.loop-turn.invariant.pair;
       counted = c.turn.ensures.counted;
+      come = c.turn.ensures.come;
       open_stage = c.in-More.ensures.goes;
       begins = MayBegin-kept c.args.place c.loop-turn.put.walk c.turn.new.self.stage (world_of c.loop-turn.nodes) (world_of c.turn.new.nodes) c.loop-turn.invariant.op stepped c.loop-turn.invariant.begins;
     }
