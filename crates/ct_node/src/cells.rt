@@ -10,7 +10,7 @@ ghost use Rattle.ct_node.specs.Cells.{cells_of, pair_at, pair_bytes, entry_bytes
 ghost use Rattle.ct_node.specs.Places.{is_before};
 
 use crate::pair::Pair;
-use ct_key::KeyBuf;
+use ct_key::{KeyBuf, compare_bytes};
 use std::alloc::Global;
 use std::cmp::Ordering;
 
@@ -52,7 +52,7 @@ pub(crate) fn cmp_at(bytes: &[u8], at: usize, key_len: usize, pair: &Pair) -> Or
     ensures { result ≡ pair_cmp (pair_at key_len (drop at bytes.now)) pair.now }
 {
     let key = &bytes[at..at + key_len];
-    match key.cmp(&pair.key.as_slice()) {
+    match compare_bytes(key, pair.key.as_slice()) {
         Ordering::Less => Ordering::Less,
         Ordering::Equal => record_at(bytes, at + key_len).cmp(&pair.num),
         Ordering::Greater => Ordering::Greater,

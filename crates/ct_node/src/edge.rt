@@ -10,6 +10,7 @@ ghost use Rattle.ct_node.specs.Roles.{first_of};
 use crate::cells::{key_at, record_at};
 use crate::pair::Pair;
 use ct_definitions::LONGEST_KEY;
+use ct_key::compare_bytes;
 use std::alloc::Global;
 use std::cmp::Ordering;
 
@@ -50,7 +51,7 @@ impl Edge {
         ensures { result ≡ pair_cmp (edge_pair key_len self.now) pair.now }
     {
         let key = &self.key[..key_len];
-        match key.cmp(&pair.key.as_slice()) {
+        match compare_bytes(key, pair.key.as_slice()) {
             Ordering::Less => Ordering::Less,
             Ordering::Equal => self.num.cmp(&pair.num),
             Ordering::Greater => Ordering::Greater,
@@ -62,7 +63,7 @@ impl Edge {
         requires { key_len ≤ 128 }
         ensures { result ≡ is_lt (pair_cmp (edge_pair key_len self.now) (edge_pair key_len other.now)) }
     {
-        match self.key[..key_len].cmp(&other.key[..key_len]) {
+        match compare_bytes(&self.key[..key_len], &other.key[..key_len]) {
             Ordering::Less => true,
             Ordering::Equal => self.num < other.num,
             Ordering::Greater => false,
@@ -76,7 +77,7 @@ impl Edge {
         ensures { result ≡ is_eq (pair_cmp (pair_at key_len bytes.now) (edge_pair key_len self.now)) }
     {
         let key = &bytes[..key_len];
-        match key.cmp(&self.key[..key_len]) {
+        match compare_bytes(key, &self.key[..key_len]) {
             Ordering::Equal => record_at(bytes, key_len) == self.num,
             _ => false,
         }

@@ -238,7 +238,7 @@ impl Node {
     fn is_from(&self, pair: &Pair) -> bool
         ensures { result ≡ is_from self.now.low pair.now }
     {
-        let Some(low) = self.low else {
+        let Some(low) = &self.low else {
             return true;
         };
         !low.cmp_pair(self.key_len, pair).is_gt()
@@ -247,7 +247,7 @@ impl Node {
     fn is_below(&self, pair: &Pair) -> bool
         ensures { result ≡ is_below self.now.high pair.now }
     {
-        let Some(high) = self.high else {
+        let Some(high) = &self.high else {
             return true;
         };
         high.cmp_pair(self.key_len, pair).is_gt()
@@ -257,7 +257,7 @@ impl Node {
     pub fn begins_below(&self, pair: &Pair) -> bool
         ensures { result ≡ begins_below self.now.low pair.now }
     {
-        let Some(low) = self.low else {
+        let Some(low) = &self.low else {
             return true;
         };
         low.cmp_pair(self.key_len, pair).is_lt()
@@ -291,7 +291,7 @@ impl Node {
     fn begins_at(&self, bound: &Option<Pair>) -> bool
         ensures { result ≡ is_same_bound self.now.low bound.now }
     {
-        let Some(low) = self.low else {
+        let Some(low) = &self.low else {
             return bound.is_none();
         };
         match bound {
@@ -304,11 +304,11 @@ impl Node {
     fn rises(&self) -> bool
         ensures { result ≡ rises self.now.low self.now.high }
     {
-        let Some(low) = self.low else {
+        let Some(low) = &self.low else {
             return true;
         };
-        match self.high {
-            Some(high) => low.is_below(&high, self.key_len),
+        match &self.high {
+            Some(high) => low.is_below(high, self.key_len),
             None => true,
         }
     }
@@ -582,7 +582,7 @@ impl Node {
     fn ends_below(&self, pair: &Pair) -> bool
         ensures { result ≡ is_past self.now.high (Before pair.now) }
     {
-        let Some(high) = self.high else {
+        let Some(high) = &self.high else {
             return false;
         };
         high.cmp_pair(self.key_len, pair).is_lt()
@@ -592,7 +592,7 @@ impl Node {
     fn is_past(&self, target: &Target) -> bool
         ensures { result ≡ is_past self.now.high target.now }
     {
-        let Some(high) = self.high else {
+        let Some(high) = &self.high else {
             return false;
         };
         match target {
