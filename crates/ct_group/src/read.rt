@@ -1,7 +1,7 @@
 //! Readers of groups, from the front of some bytes.
 //! A group is read only where its body has exactly the length that stands before it.
 
-ghost use Rattle.std.specs.Prelude.{◌≡◌, ◌++◌, ◌^◌, List, ℕ, length, IfOk};
+ghost use Rattle.std.specs.Prelude.{◌≡◌, ◌++◌, ◌^◌, List, ℕ, [], length, IfOk};
 ghost use Rattle.std.specs.Int.{w32, w64};
 ghost use Rattle.ct_codec.specs.Formats.{number, counted, times};
 ghost use Rattle.ct_codec.specs.Answers.{Gives, TakesNoMemory, ReadsFront, BeginsWith, IsAnswer};
@@ -68,10 +68,24 @@ fn made_at(bytes: &[u8]) -> Result<(Made, &[u8]), Fault>
     }
 }
 
-fn changes_of(alloc: Global, count: u32, bytes: &[u8]) -> Result<(Changes, &[u8]), Fault>
+/// A list without items, in the memory of this one.
+fn emptied(changes: Changes) -> Changes
+    ensures { result ≡ [] }
+{
+    let mut items = changes.into_vec();
+    items.clear();
+    Items::from_vec(items)
+}
+
+fn changes_of(
+    alloc: Global,
+    count: u32,
+    bytes: &[u8],
+    room: Changes,
+) -> Result<(Changes, &[u8]), Fault>
     ensures { Gives (λ x. (x.0, x.1.now)) result ((times change_codec count).read bytes.now) }
 {
-    let mut changes = Items::new(alloc);
+    let mut changes = emptied(room);
     let mut rest = bytes;
     for _ in 0..count {
         let (change, after) = change_at(alloc, rest)?;
@@ -81,21 +95,21 @@ fn changes_of(alloc: Global, count: u32, bytes: &[u8]) -> Result<(Changes, &[u8]
     Ok((changes, rest))
 }
 
-fn changes_at(alloc: Global, bytes: &[u8]) -> Result<(Changes, &[u8]), Fault>
+fn changes_at(alloc: Global, bytes: &[u8], room: Changes) -> Result<(Changes, &[u8]), Fault>
     ensures { Gives (λ x. (x.0, x.1.now)) result ((counted (up_to w32 4096) change_codec).read bytes.now) }
 {
     let (count, rest) = count_at(MOST_CHANGES, bytes)?;
-    changes_of(alloc, count, rest)
+    changes_of(alloc, count, rest, room)
 }
 
 #[tactic(auto, unfolding(crate::specs::Groups::commit_codec))]
-fn commit_at(alloc: Global, bytes: &[u8]) -> Result<(Group, &[u8]), Fault>
+fn commit_at(alloc: Global, bytes: &[u8], room: Changes) -> Result<(Group, &[u8]), Fault>
     ensures { Gives (λ x. (x.0, x.1.now)) result ((body_codec kind.Commit).read bytes.now) }
 {
     let (number, rest) = number_at(LAST_NUMBER, bytes)?;
     let (session, rest) = read_u16(rest)?;
     let (made, rest) = made_at(rest)?;
-    let (changes, rest) = changes_at(alloc, rest)?;
+    let (changes, rest) = changes_at(alloc, rest, room)?;
     let transaction = Transaction {
         number,
         session,
@@ -200,11 +214,11 @@ fn most_body(kind: Kind) -> u32
     }
 }
 
-fn body_at(alloc: Global, kind: Kind, bytes: &[u8]) -> Result<(Group, &[u8]), Fault>
+fn body_at(alloc: Global, kind: Kind, bytes: &[u8], room: Changes) -> Result<(Group, &[u8]), Fault>
     ensures { Gives (λ x. (x.0, x.1.now)) result ((body_codec kind).read bytes.now) }
 {
     match kind {
-        Kind::Commit => commit_at(alloc, bytes),
+        Kind::Commit => commit_at(alloc, bytes, room),
         Kind::Image => image_at(alloc, bytes),
         Kind::Checkpoint => checkpoint_at(alloc, bytes),
         Kind::Mark => mark_at(bytes),
@@ -212,10 +226,10 @@ fn body_at(alloc: Global, kind: Kind, bytes: &[u8]) -> Result<(Group, &[u8]), Fa
 }
 
 /// The group whose body all of these bytes are.
-fn whole_body(alloc: Global, kind: Kind, body: &[u8]) -> Result<Group, Fault>
+fn whole_body(alloc: Global, kind: Kind, body: &[u8], room: Changes) -> Result<Group, Fault>
     ensures { Gives (λ x. x) result (read_whole (body_codec kind) body.now) }
 {
-    let (group, rest) = body_at(alloc, kind, body)?;
+    let (group, rest) = body_at(alloc, kind, body, room)?;
     if !rest.is_empty() {
         return Err(Fault::Bad(rest.len()));
     }
@@ -223,12 +237,17 @@ fn whole_body(alloc: Global, kind: Kind, body: &[u8]) -> Result<Group, Fault>
 }
 
 /// The group of this kind at the front of bytes that begin with its body's length.
-fn enclosed_at(alloc: Global, kind: Kind, bytes: &[u8]) -> Result<(Group, &[u8]), Fault>
+fn enclosed_at(
+    alloc: Global,
+    kind: Kind,
+    bytes: &[u8],
+    room: Changes,
+) -> Result<(Group, &[u8]), Fault>
     ensures { Gives (λ x. (x.0, x.1.now)) result ((enclosed (up_to w32 (most_body kind)) (body_codec kind)).read bytes.now) }
 {
     let (len, rest) = count_at(most_body(kind), bytes)?;
     let (body, rest) = read_bytes(len as usize, rest)?;
-    match whole_body(alloc, kind, body) {
+    match whole_body(alloc, kind, body, room) {
         Ok(group) => Ok((group, rest)),
         Err(Fault::Bad(left)) => Err(Fault::Bad(left + rest.len())),
         Err(Fault::Memory) => Err(Fault::Memory),
@@ -236,15 +255,16 @@ fn enclosed_at(alloc: Global, kind: Kind, bytes: &[u8]) -> Result<(Group, &[u8])
 }
 
 #[tactic(auto, unfolding(crate::specs::Groups::group_codec))]
-fn group_at(alloc: Global, bytes: &[u8]) -> Result<(Group, &[u8]), Fault>
+fn group_at(alloc: Global, bytes: &[u8], room: Changes) -> Result<(Group, &[u8]), Fault>
     ensures { Gives (λ x. (x.0, x.1.now)) result (group_codec.read bytes.now) }
 {
     let (kind, rest) = kind_at(bytes)?;
-    enclosed_at(alloc, kind, rest)
+    enclosed_at(alloc, kind, rest, room)
 }
 
 /// The group at the front of some bytes, and how many of them it takes.
-pub fn read_group(alloc: Global, bytes: &[u8]) -> Result<(Group, usize), ReadFault>
+/// The changes of a commit stand in the memory of `room`, whose own items are dropped whatever is read.
+pub fn read_group(alloc: Global, bytes: &[u8], room: Changes) -> Result<(Group, usize), ReadFault>
     // What is read is spelled so, byte for byte, and fits its fields.
     ensures found { IfOk result (BeginsWith group_codec FitsGroup bytes.now) }
     // What is spelled so is read, whatever follows, unless memory ran out.
@@ -253,5 +273,5 @@ pub fn read_group(alloc: Global, bytes: &[u8]) -> Result<(Group, usize), ReadFau
     // A fault's place is that of the first field that does not fit.
     ensures place { ReadsFront group_codec bytes.now result }
 {
-    front_of(bytes, group_at(alloc, bytes))
+    front_of(bytes, group_at(alloc, bytes, room))
 }

@@ -6,7 +6,7 @@ ghost use Rattle.ct_group.specs.Commit.{FitsCommit};
 
 use super::*;
 use ct_codec::ReadFault;
-use ct_definitions::{Change, Made, Transaction};
+use ct_definitions::{Change, Changes, Made, Transaction};
 use ct_items::Items;
 use std::alloc::Global;
 use std::test::*;
@@ -65,7 +65,7 @@ const MARK: [u8; 13] = [4, 8, 0, 0, 0, 2, 0, 0, 0, 0, 0, 0, 0];
 // whether the bytes are one group, and are what is written of it
 fn comes_back(alloc: Global, bytes: &[u8]) -> Result<bool, Fail> {
     groups_are_exact();
-    let (group, len) = read_group(alloc, bytes)?;
+    let (group, len) = read_group(alloc, bytes, Changes::new(alloc))?;
     let mut again = Vec::new(alloc);
     write_group(&group, &mut again)?;
     Ok(len == bytes.len() && again.as_slice() == bytes)
@@ -82,7 +82,7 @@ fn groups_come_back(rt: HostRuntime) -> Result<(), Fail> {
 
 // where the first field is that does not fit
 fn bad_place(alloc: Global, bytes: &[u8]) -> Option<usize> {
-    match read_group(alloc, bytes) {
+    match read_group(alloc, bytes, Changes::new(alloc)) {
         Err(ReadFault::Bad { at }) => Some(at),
         _ => None,
     }

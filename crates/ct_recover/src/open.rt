@@ -25,7 +25,8 @@ use std::alloc::Global;
 /// `Undone` comes exactly where the gate of the log's header is not open, `BadLog` at the first place where the
 /// log is damaged.
 ///
-/// One window on the log, which is 64 KiB or one longer chunk, and the state are in memory at a time.
+/// One window on the log, which is 64 KiB or one longer chunk, the changes of one transaction, in the room of the
+/// longest list so far, and the state are in memory at a time.
 pub fn open_store<P: Disk, L: Disk>(
     alloc: Global,
     mut pages: P,

@@ -17,6 +17,7 @@ use ct_group::{Group, read_group};
 use ct_log::{Log, Part, Start, Window};
 use ct_model::{Refused, State, apply};
 use std::alloc::Global;
+use std::mem::replace;
 
 /// A chunk's gate and the four bytes of its length.
 const FRAME: u64 = 5;
@@ -36,6 +37,8 @@ pub(crate) struct Replay {
     pub(crate) ordinal: u64,
     /// Where the next chunk stands.
     pub(crate) place: u64,
+    /// An empty list, whose memory the changes of the next transaction take.
+    pub(crate) room: Changes,
 }
 
 impl Replay {
@@ -53,6 +56,7 @@ impl Replay {
             number: start.last,
             ordinal: start.ordinal,
             place: start.place,
+            room: Changes::new(alloc),
         }
     }
 
@@ -96,8 +100,9 @@ impl Replay {
         ensures within { OnOk result (IsWithin self.new) }
         ensures place { self.new.place ≡ self.old.place }
     {
-        let (transaction, size) = commit_at(alloc, self.number + 1, bytes)?;
-        make_changes(alloc, &mut self.state, transaction.changes)?;
+        let room = replace(&mut self.room, Changes::new(alloc));
+        let (transaction, size) = commit_at(alloc, self.number + 1, bytes, room)?;
+        self.room = make_changes(alloc, &mut self.state, transaction.changes)?;
         self.number += 1;
         self.ordinal = (self.ordinal + 1).min(LAST_ORDINAL);
         Ok(size)
@@ -105,12 +110,17 @@ impl Replay {
 }
 
 /// The transaction with this number whose commit stands at the front of some bytes, and how many of them it
-/// takes. `NotDefined` where there is none.
-fn commit_at(alloc: Global, number: u64, bytes: &[u8]) -> Result<(Transaction, usize), Refused>
+/// takes. `NotDefined` where there is none. Its changes stand in the memory of `room`.
+fn commit_at(
+    alloc: Global,
+    number: u64,
+    bytes: &[u8],
+    room: Changes,
+) -> Result<(Transaction, usize), Refused>
     ensures found { IfOk result (λ found. BeginsWithCommit number bytes.now found.0 found.1) }
     ensures none { IsErrOf result Refused.NotDefined → BeginsWithNone number bytes.now }
 {
-    match read_group(alloc, bytes) {
+    match read_group(alloc, bytes, room) {
         Ok((group, size)) => {
             let Some(transaction) = commit_of(group) else {
                 return Err(Refused::NotDefined);
@@ -135,16 +145,18 @@ fn commit_of(group: Group) -> Option<Transaction>
     }
 }
 
-/// Makes changes one after the other. What they bring moves into the state.
-fn make_changes(alloc: Global, state: &mut State, changes: Changes) -> Result<(), Refused>
+/// Makes changes one after the other. What they bring moves into the state, and their list comes back without them.
+fn make_changes(alloc: Global, state: &mut State, changes: Changes) -> Result<Changes, Refused>
+    ensures emptied { IfOk result (λ room. room ≡ []) }
     ensures made { OnOk result (state.new ≡ after_changes state.old changes) }
     ensures allowed { OnOk result (allows_all state.old changes ≡ true) }
     ensures refused { IsErrOf result Refused.NotDefined → allows_all state.old changes ≡ false }
 {
-    for change in changes.into_vec() {
+    let mut items = changes.into_vec();
+    for change in items.drain(..) {
         apply(alloc, state, change)?;
     }
-    Ok(())
+    Ok(Changes::from_vec(items))
 }
 
 /// Replays the chunks of a log up to the first gate that is not open.

@@ -5,7 +5,7 @@ use Rattle.ct_change_codec.specs.ChangeFormat.{change_codec}
 use Rattle.ct_group.proofs.read.changes_of.Goals as goal
 
 pub loop-init : goal.loop-init
-loop-init c = rw c.new-changes.ensures (times_begins change_codec c.args.count c.args.bytes.now)
+loop-init c = rw c.emptied-changes.ensures (times_begins change_codec c.args.count c.args.bytes.now)
 
 pub loop-preserved : goal.loop-preserved
 loop-preserved c =
