@@ -1,14 +1,13 @@
 -- What the cells of a node tell a walk.
 use Rattle.std.proofs.Common.{◌≡◌, ℕ, ◌+◌, ◌*◌, ◌<◌, Bool, false, cond, List, [], take, drop, sym, ap, ◌∙◌, arith, Some}
-use Rattle.std.specs.Prelude.{slice_get}
+use Rattle.std.specs.Prelude.{option_map, slice_get}
 use Rattle.std.specs.List.{prefix_len}
 use Rattle.std.specs.Int.{w64, from_le_bytes}
 use Rattle.std.proofs.lemmas.List.{drop-drop, get_or-map}
 use Rattle.ct_definitions.specs.Pairs.{Pair}
-use Rattle.ct_node.specs.Nodes.{pairs_in, width_of}
+use Rattle.ct_node.specs.Nodes.{Entry, pairs_in, width_of}
 use Rattle.ct_node.specs.Cells.{cells_of, entry_at}
-use Rattle.ct_node.specs.Places.{is_before, down}
-use Rattle.ct_node.specs.declared.target.Place.TheVariants.{Down}
+use Rattle.ct_node.specs.Places.{is_before}
 use Rattle.ct_node.specs.Stored.{value_of}
 use Rattle.ct_node.specs.declared.node.Node.TheInside.{Inside}
 use Rattle.ct_node.proofs.CellLemmas.{window-take, length-cells_of, get_or-cells_of}
@@ -34,8 +33,8 @@ entry_in_cell n at within =
     ∙ ap Some (get_or-map (entry_at n.key_len n.leaf) (cells_of width n.count n.cells) at [] entry (omega (arith, length-cells_of width n.count n.cells)) ∙ ap (entry_at n.key_len n.leaf) (get_or-cells_of width n.count n.cells at [] within))
 
 -- the page below in the cell of a place of an inner node
-pub down-from_cell : (n : Inside) (at width page : ℕ) (slice : List ℕ) → n.leaf ≡ false → at < n.count → width ≡ width_of n.key_len n.leaf → slice ≡ n.cells → page ≡ from_le_bytes w64 (take 8 (drop (at * width + n.key_len + 8) slice)) → Down page ≡ down (slice_get (value_of n).entries at)
-down-from_cell n at width page slice inner within is_width is_slice read =
+pub child-from_cell : (n : Inside) (at width page : ℕ) (slice : List ℕ) → n.leaf ≡ false → at < n.count → width ≡ width_of n.key_len n.leaf → slice ≡ n.cells → page ≡ from_le_bytes w64 (take 8 (drop (at * width + n.key_len + 8) slice)) → Some page ≡ option_map (λ (entry : Entry). entry.child) (slice_get (value_of n).entries at)
+child-from_cell n at width page slice inner within is_width is_slice read =
     let full = width_of n.key_len n.leaf in
     let cell = drop (at * full) n.cells in
     let wide : full ≡ n.key_len + 16 = ap (width_of n.key_len) inner in
@@ -48,4 +47,4 @@ down-from_cell n at width page slice inner within is_width is_slice read =
     ∙ sym (window-take (n.key_len + 8) 8 full cell (omega arith)) in
     let child : page ≡ (entry_at n.key_len n.leaf (take full cell)).child =
     read ∙ ap (from_le_bytes w64) digits ∙ sym (ap (λ leaf. cond leaf 0 (from_le_bytes w64 (take 8 (drop (n.key_len + 8) (take full cell))))) inner) in
-    ap Down child ∙ sym (ap down (entry_in_cell n at within))
+    ap Some child ∙ sym (ap (option_map (λ (entry : Entry). entry.child)) (entry_in_cell n at within))

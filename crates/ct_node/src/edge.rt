@@ -84,15 +84,18 @@ impl Edge {
     }
 }
 
+/// The pair of zeros.
+const ZEROS: Edge = Edge {
+    key: [0; LONGEST_KEY],
+    num: 0,
+};
+
 /// The pair with which an inner node of this low bound begins: the bound, or zeros where it is open.
-pub(crate) fn first_of(low: Option<Edge>) -> Edge
-    ensures { (key_len : ℕ) → key_len ≤ 128 → edge_pair key_len result ≡ first_of key_len (option_map (edge_pair key_len) low) }
+pub(crate) fn first_of(low: &Option<Edge>) -> &Edge
+    ensures { (key_len : ℕ) → key_len ≤ 128 → edge_pair key_len result.now ≡ first_of key_len (option_map (edge_pair key_len) low.now) }
 {
     match low {
         Some(edge) => edge,
-        None => Edge {
-            key: [0; LONGEST_KEY],
-            num: 0,
-        },
+        None => &ZEROS,
     }
 }

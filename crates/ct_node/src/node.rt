@@ -1,6 +1,6 @@
 //! A node: its bounds, its right link and its entries, and the edits of one.
 
-ghost use Rattle.std.specs.Prelude.{◌≡◌, ℕ, ◌≤◌, ◌<◌, ◌+◌, ◌*◌, ◌-◌, [], ◌++◌, length, take, drop, replicate, filter, slice_get, slice_index, false, true, nat_lt, if◌then◌else◌, Some, None, IsSome, IfSome, IsTrue};
+ghost use Rattle.std.specs.Prelude.{◌≡◌, ℕ, ◌≤◌, ◌<◌, ◌+◌, ◌*◌, ◌-◌, [], ◌++◌, length, take, drop, replicate, filter, slice_get, slice_index, false, true, nat_lt, if◌then◌else◌, option_map, Some, None, IsSome, IfSome, IsTrue};
 ghost use Rattle.std.specs.List.{All, prefix_len};
 ghost use Rattle.std.specs.Option.{option_map_or};
 ghost use Rattle.std.specs.Ordering.{is_eq};
@@ -8,7 +8,7 @@ ghost use Rattle.ct_definitions.specs.Pairs.{pair_cmp, with_pair};
 ghost use Rattle.ct_page.specs.declared.kind.PageKind.TheVariants.{Leaf, Inner};
 ghost use Rattle.ct_page.specs.Fields.{u64_at};
 ghost use Rattle.ct_page.specs.Headers.{has_fields};
-ghost use Rattle.ct_node.specs.Nodes.{IsNode, pairs_in, capacity_of, is_from, is_below, is_within, has_pair, with_entry, has_other_pair};
+ghost use Rattle.ct_node.specs.Nodes.{Entry, IsNode, pairs_in, capacity_of, is_from, is_below, is_within, has_pair, with_entry, has_other_pair};
 ghost use Rattle.ct_node.specs.declared.target.Target.TheVariants.{At, Before};
 ghost use Rattle.ct_node.specs.Cells.{cells_of, pair_at, with_bytes};
 ghost use Rattle.ct_node.specs.Places.{is_before, is_past, is_ahead, here, down, next_place, begins_below};
@@ -271,7 +271,7 @@ impl Node {
         if self.leaf || self.count == 0 {
             return self.leaf;
         }
-        first_of(self.low).is_at(self.cells.as_slice(), self.key_len)
+        first_of(&self.low).is_at(self.cells.as_slice(), self.key_len)
     }
 
     /// Whether it is in its role, as the way that leads to its page tells.
@@ -531,8 +531,42 @@ impl Node {
         if self.leaf {
             return self.here(self.count_ahead(target, false));
         }
-        let reached = self.count_ahead(target, true);
-        self.below(reached.saturating_sub(1))
+        self.below(self.place_below(target))
+    }
+
+    /// The place of the entry through which the walk to a target goes down from an inner node.
+    pub fn place_below(&self, target: &Target) -> usize
+        ensures { result ≡ prefix_len (is_ahead true target.now) (pairs_in self.now) - 1 }
+    {
+        self.count_ahead(target, true).saturating_sub(1)
+    }
+
+    /// The page below of the entry at a place of an inner node, where it has one.
+    pub fn child(&self, place: usize) -> Option<u64>
+        requires { self.now.leaf ≡ false }
+        ensures { result ≡ option_map (λ (entry : Entry). entry.child) (slice_get self.now.entries place) }
+    {
+        if place >= self.count {
+            return None;
+        }
+        let width = width_of(self.key_len, self.leaf);
+        let behind = place * width + self.key_len + 8;
+        Some(page_at(self.cells.as_slice(), behind))
+    }
+
+    /// Makes the way to this node that to the page on its right. It takes no memory.
+    pub fn come_right(&self, alloc: Global, reach: &mut Reach)
+        ensures { reach.new ≡ reach_right self.now }
+    {
+        *reach = self.reach_right(alloc);
+    }
+
+    /// Makes the way to this node that to the page below of the entry at a place. It takes no
+    /// memory.
+    pub fn come_below(&self, alloc: Global, place: usize, reach: &mut Reach)
+        ensures { reach.new ≡ reach_below self.now place }
+    {
+        *reach = self.reach_below(alloc, place);
     }
 
     /// The way to the page at which the walk to a target goes on. It takes no memory.
@@ -545,8 +579,7 @@ impl Node {
         if self.leaf {
             return self.reach_here(alloc);
         }
-        let ahead = self.count_ahead(target, true);
-        self.reach_below(alloc, ahead.saturating_sub(1))
+        self.reach_below(alloc, self.place_below(target))
     }
 
     /// The way to the page at which the walk to a pair goes on. It takes no memory.
@@ -589,7 +622,7 @@ impl Node {
     }
 
     /// Whether a target is at or above the high bound.
-    fn is_past(&self, target: &Target) -> bool
+    pub fn is_past(&self, target: &Target) -> bool
         ensures { result ≡ is_past self.now.high target.now }
     {
         let Some(high) = &self.high else {
@@ -641,17 +674,15 @@ impl Node {
         }
     }
 
-    /// The page below of the entry at a place of an inner node.
+    /// Down to the page of the entry at a place of an inner node.
     fn below(&self, place: usize) -> Place
         requires { self.now.leaf ≡ false }
         ensures { result ≡ down (slice_get self.now.entries place) }
     {
-        if place >= self.count {
-            return Place::End;
+        match self.child(place) {
+            Some(child) => Place::Down(child),
+            None => Place::End,
         }
-        let width = width_of(self.key_len, self.leaf);
-        let behind = place * width + self.key_len + 8;
-        Place::Down(page_at(self.cells.as_slice(), behind))
     }
 }
 

@@ -1,22 +1,20 @@
 use Rattle.std.proofs.Common.{◌≡◌, ◌+◌, ◌*◌, false, length, ap, ◌∙◌, sym, subst, arith}
-use Rattle.std.specs.Prelude.{slice_get}
-use Rattle.ct_node.specs.Nodes.{NodeValue, width_of}
-use Rattle.ct_node.specs.Places.{down}
-use Rattle.ct_node.specs.declared.target.Place.TheVariants.{Down, End}
+use Rattle.std.specs.Prelude.{option_map, slice_get, Some, None}
+use Rattle.ct_node.specs.Nodes.{Entry, NodeValue, width_of}
 use Rattle.ct_node.specs.Stored.{value_of}
 use Rattle.ct_node.proofs.CellLemmas.{step_within}
 use Rattle.ct_node.proofs.Searches.{slice_get-past}
 use Rattle.ct_node.proofs.Entries.{length-entries_of}
 use Rattle.ct_node.proofs.Edits.{cells_within}
-use Rattle.ct_node.proofs.Walks.{down-from_cell}
-use Rattle.ct_node.proofs.node.Node.below.Goals as goal
+use Rattle.ct_node.proofs.Walks.{child-from_cell}
+use Rattle.ct_node.proofs.node.Node.child.Goals as goal
 
 pub returns-then-place-self : goal.returns-then-place-self
 returns-then-place-self c =
     let n = c.self.inside in
     let long = length-entries_of n.key_len n.leaf n.count n.cells in
-    subst (λ (value : NodeValue). End ≡ down (slice_get value.entries c.args.place)) c.self.view_is
-    (sym (ap down (slice_get-past (value_of n).entries c.args.place (omega arith))))
+    subst (λ (value : NodeValue). None ≡ option_map (λ (entry : Entry). entry.child) (slice_get value.entries c.args.place)) c.self.view_is
+    (sym (ap (option_map (λ (entry : Entry). entry.child)) (slice_get-past (value_of n).entries c.args.place (omega arith))))
 
 pub overflow_mul-behind : goal.overflow_mul-behind
 overflow_mul-behind c =
@@ -55,5 +53,5 @@ pub returns : goal.returns
 returns c =
     let n = c.self.inside in
     let inner : n.leaf ≡ false = ap (λ (value : NodeValue). value.leaf) c.self.view_is ∙ c.requires in
-    subst (λ (value : NodeValue). Down c.page_at.result ≡ down (slice_get value.entries c.args.place)) c.self.view_is
-    (down-from_cell n c.args.place c.width_of-width.result c.page_at.result c.as_slice.result.now inner c.if-place-self.false c.width_of-width.ensures c.as_slice.ensures c.page_at.ensures)
+    subst (λ (value : NodeValue). Some c.page_at.result ≡ option_map (λ (entry : Entry). entry.child) (slice_get value.entries c.args.place)) c.self.view_is
+    (child-from_cell n c.args.place c.width_of-width.result c.page_at.result c.as_slice.result.now inner c.if-place-self.false c.width_of-width.ensures c.as_slice.ensures c.page_at.ensures)
