@@ -209,6 +209,12 @@ no_way_back w mid at target page node place same stands is goes one = not_founde
     let here = stands founded in
     not_onward w page (⊎_elim (λ right. right_onward w at here.0 here.1 here.3.0 here.3.1 target page page here.2 here.3.2 right) (λ down. down_onward w at here.0 here.1 target page page here.2 here.3 down) (leads_back w page node place target is goes one)))
 
+-- and no right link of a node of a tree leads to its own page
+pub no_right_back : (w mid : World) (at : Root) (leaf : Bool) (target : Target) (page right : ℕ) (node : NodeValue) → mid ≡ w → (IsTrue w.founded → (t : Tree) × (leaves : List ℕ) × IsTree w at t leaves × (low : Option Pair) × IsAt w t leaf low page) → page_at w page ≡ Holds node → Right right ≡ next_place node target → right ≡ page → mid.founded ≡ false
+no_right_back w mid at leaf target page right node same stands is goes one = not_founded w mid same (λ founded.
+    let here = stands founded in
+    not_onward w page (right_onward w at here.0 here.1 leaf here.3 target page page here.2 here.4 (node, is, sym goes ∙ ap Right one)))
+
 -- a leaf to the left begins below the place of the search
 pub begins_lower : (walk : Walk) (w mid : World) (low : Pair) (or_at : Bool) (page : ℕ) (node : NodeValue) → Stands walk (stage.Left low or_at (way.Shared page)) w → mid ≡ w → page_at w page ≡ Holds node → begins_below node.low low ≡ false → mid.founded ≡ false
 begins_lower walk w mid low or_at page node stands same is not_lower = not_founded w mid same (λ founded.
@@ -228,14 +234,6 @@ begins_lower walk w mid low or_at page node stands same is not_lower = not_found
             by_parts true either = refl
             by_parts false either = either
 
--- a leaf that is to be cut is full
-pub cut_is_full : (walk : Walk) (page right : ℕ) (node : NodeValue) (w mid : World) → Stands walk (stage.Cut page right) w → page_at w page ≡ Holds node → mid ≡ w → ((node.leaf ≡ true) → is_full node ≡ true → ⊥) → mid.founded ≡ false
-cut_is_full walk page right node w mid stands is same other = not_founded w mid same (λ founded.
-    let here = stands founded in
-    let known = here.place.1.1 in
-    let one : here.place.1.0 ≡ node = one_node w page node here.place.1.0 is known.is in
-    other (sym (ap (λ (v : NodeValue). v.leaf) one) ∙ known.leaf) (ap not (subst IsPacked one known.full)))
-
 -- and so is a node above
 pub above_is_full : (walk : Walk) (s : Separator) (page right : ℕ) (node : NodeValue) (w mid : World) → Stands walk (stage.Post s (rise.Cut page right)) w → page_at w page ≡ Holds node → mid ≡ w → (is_full node ≡ true → ⊥) → mid.founded ≡ false
 above_is_full walk s page right node w mid stands is same other = not_founded w mid same (λ founded.
@@ -254,6 +252,3 @@ circle_bad walk at moves pages page w stands counted all circle = not_founded w 
         let less = lt-ltb moves pages (omega (arith, room, all)) in
         let none : None ≡ Some page = sym (ap (λ (b : Bool). if b then None else Some spot.page) less) ∙ is in
         absurd (cc)
-
-pub counted_same : (w now : World) (at : Stage) (moves : ℕ) → now ≡ w → IsCounted at moves w → IsCounted at moves now
-counted_same w now at moves same counted = subst (IsCounted at moves) (sym same) counted

@@ -3,7 +3,7 @@ use Rattle.std.proofs.Common.{◌≡◌, ℕ, ◌+◌, ◌-◌, ◌<◌, ◌≤�
 use Rattle.std.specs.Prelude.{nat_lt, IfSome, if◌then◌else◌}
 use Rattle.std.specs.Ordering.{is_lt}
 use Rattle.std.specs.List.{count_by}
-use Rattle.std.proofs.lemmas.Bool.{cases_lt, false≢true, eqb-true, eq-eqb, ltb-false, lt-ltb, le-ltb, not-true, and_from, false_from_ne_true}
+use Rattle.std.proofs.lemmas.Bool.{cases_lt, false≢true, eqb-true, eq-eqb, lt-ltb, le-ltb, not-true, and_from, false_from_ne_true}
 use Rattle.std.proofs.lemmas.Cmp.{tied_itself}
 use Rattle.std.proofs.lemmas.List.{length-set, length-drop, length-take-le}
 use Rattle.ct_definitions.specs.Pairs.{Pair}
@@ -88,10 +88,6 @@ and_false false b fails = refl
 -- a pair is not below itself
 not_below_itself : (pair : Pair) → below pair pair ≡ false
 not_below_itself pair = ap is_lt (tied_itself pair_total pair)
-
--- a full node, and the halves of one
-full_is : (node : NodeValue) → is_full node ≡ true → capacity_of node.key_len node.leaf ≤ length node.entries
-full_is node full = ltb-false (length node.entries) (capacity_of node.key_len node.leaf) (not-true (nat_lt (length node.entries) (capacity_of node.key_len node.leaf)) full)
 
 roomy : (node : NodeValue) → length node.entries < capacity_of node.key_len node.leaf → is_full node ≡ false
 roomy node room = ap not (lt-ltb (length node.entries) (capacity_of node.key_len node.leaf) room)

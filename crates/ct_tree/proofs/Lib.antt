@@ -14,3 +14,4 @@ pub mod RolesLeft
 pub mod RolesPost
 pub mod RolesDown
 pub mod Coming
+pub mod Onward

@@ -80,15 +80,6 @@ pub record SoFar (programs current : List Program) (schedule : List ℕ) (index 
   pub places : places_of happened ≡ take index schedule
   pub runs : IsTrue w.founded → (at : Root) (keys : List Pair) → Chain w at keys → (later : List Pair) × Runs at (map task_of programs) happened keys later × Chain now at later
 
--- the numbers of operations are told by their list alone
-pub HaveOwnNumbers-same : (programs current : List Program) → map op_of current ≡ map op_of programs → HaveOwnNumbers programs → HaveOwnNumbers current
-HaveOwnNumbers-same programs current same own i j first second one =
-    let long : length current ≡ length programs = sym (length-map current op_of) ∙ ap length same ∙ length-map programs op_of in
-    own i j (omega arith) (omega arith) (sym (ap (λ ops. get_or ops i 0) same) ∙ one ∙ ap (λ ops. get_or ops j 0) same)
-
-pub length-same : (programs current : List Program) → map op_of current ≡ map op_of programs → length current ≡ length programs
-length-same programs current same = sym (length-map current op_of) ∙ ap length same ∙ length-map programs op_of
-
 places_more : (happened : List Happened) (one : Happened) (schedule : List ℕ) (index : ℕ) → index < length schedule → places_of happened ≡ take index schedule → one.program ≡ get_or schedule index one.program → places_of (happened ++ one ∷ []) ≡ take (index + 1) schedule
 places_more happened one schedule index within before is =
     map_push (λ (h : Happened). h.program) happened one ∙ ap (λ places. places ++ one.program ∷ []) before ∙ ap (λ place. take index schedule ++ place ∷ []) is ∙ sym (take_more schedule index one.program within)

@@ -21,7 +21,7 @@ use Rattle.ct_tree.specs.declared.program.Program.TheVariants as program
 use Rattle.ct_tree.specs.declared.program.Program.{Program}
 use Rattle.ct_tree.specs.declared.program.Happened.{Happened}
 use Rattle.ct_tree.specs.Answers.{IsPair, IsPutting, IsSearchingBy}
-use Rattle.ct_tree.specs.Schedules.{Task, Runs, walk_of, moves_of, ways_of, op_of, IsReady, IsNew, IsStanding, AllStand, HaveOwnNumbers}
+use Rattle.ct_tree.specs.Schedules.{Task, Runs, walk_of, moves_of, ways_of, op_of, IsNew, IsStanding, AllStand, HaveOwnNumbers}
 use Rattle.ct_tree.specs.Counted.{IsCounted}
 use Rattle.ct_tree.specs.Roles.{HasCome}
 use Rattle.ct_tree.proofs.Coming.{come_start}
@@ -31,9 +31,6 @@ pub new_all_stand : (key_len : ℕ) (programs : List Program) (w : World) → 1 
 new_all_stand key_len programs w some short is all =
     All-weaker (IsNew key_len) (IsStanding w)
     (λ program new. (subst (λ at. Stands (walk_of program) at w) (sym new.starts) (subst (Stands (walk_of program) stage.Start) (sym is) (new_stands key_len some short (walk_of program) new.at new.key)), subst (λ at. IsCounted at (moves_of program) w) (sym new.starts) (λ founded. new.still), subst (λ at. HasCome at (ways_of program) w) (sym new.starts) (come_start (ways_of program) w))) programs all
-
-pub new_all_ready : (key_len : ℕ) (programs : List Program) → All (IsNew key_len) programs → All IsReady programs
-new_all_ready key_len programs all = All-weaker (IsNew key_len) IsReady (λ program new. new.ready) programs all
 
 pub own_from_range : (programs : List Program) → map op_of programs ≡ range_with_len 0 (length programs) → HaveOwnNumbers programs
 own_from_range programs is i j first second one =

@@ -1,7 +1,7 @@
 -- The turns of programs, as what they do to the pairs of each index.
 use Rattle.std.proofs.Common.{◌≡◌, Bool, true, false, cond, List, Option, refl, sym, ap, ◌∙◌, subst, ⊎_elim}
 use Rattle.std.specs.Prelude.{IsTrue, ◌⊎◌, if◌then◌else◌}
-use Rattle.std.proofs.lemmas.Bool.{true≢false, false≢true}
+use Rattle.std.proofs.lemmas.Bool.{true≢false}
 use Rattle.ct_definitions.specs.Pairs.{Pair}
 use Rattle.ct_node.specs.declared.root.Root.{Root}
 use Rattle.ct_node.specs.Worlds.{World}
@@ -14,21 +14,6 @@ use Rattle.ct_tree_laws.proofs.Keys.{same_root}
 use Rattle.ct_tree.specs.Answers.{put_at, take_at, has_at, found_by}
 use Rattle.ct_tree.specs.Schedules.{Task, is_ended}
 use Rattle.ct_tree.specs.declared.seek.Seek.{Seek}
-
-pub stage_ended : (at : Stage) → is_ended at ≡ true → at ≡ stage.Ended
-stage_ended stage.Start is = absurd (false≢true is)
-stage_ended (stage.Down page) is = absurd (false≢true is)
-stage_ended (stage.Leaf page) is = absurd (false≢true is)
-stage_ended (stage.Held page) is = absurd (false≢true is)
-stage_ended (stage.Full page) is = absurd (false≢true is)
-stage_ended (stage.Split page right) is = absurd (false≢true is)
-stage_ended (stage.Cut page right) is = absurd (false≢true is)
-stage_ended (stage.Share page above) is = absurd (false≢true is)
-stage_ended (stage.Shared page above) is = absurd (false≢true is)
-stage_ended (stage.SharedLeft page) is = absurd (false≢true is)
-stage_ended (stage.Left low or_at on) is = absurd (false≢true is)
-stage_ended (stage.Post separator rise) is = absurd (false≢true is)
-stage_ended stage.Ended is = refl
 
 -- one of the two, where the stage is not the last
 pub not_ended : (P : Type 0) (at : Stage) → is_ended at ≡ false → P ⊎ (at ≡ stage.Ended) → P

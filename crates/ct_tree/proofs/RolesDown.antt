@@ -62,7 +62,7 @@ goes_comes walk w now (stage.Leaf page) to reach over here there keeps was known
     kept : IsReachedAt (Some page) reach now
     kept = kept_at w now (Some page) reach keeps was
 
-    stays : (at : Stage) → page_of at ≡ Some page → IsReachedAt (Some page) (way_here at reach) now → Comes walk w now (stage.Leaf page) reach over at
+    stays : (at : Stage) → page_of at ≡ Some page → IsReachedAt (Some page) (way_here true at reach) now → Comes walk w now (stage.Leaf page) reach over at
     stays at is here = comes_here walk w now (stage.Leaf page) at reach over page refl is here
 goes_comes walk w now (stage.Held page) to reach over here there keeps was known (same, goes) =
     ⊎_elim (λ (next, leads, is). subst (Comes walk w now (stage.Held page) reach over) (sym is)

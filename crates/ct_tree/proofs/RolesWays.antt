@@ -19,7 +19,7 @@ use Rattle.ct_tree_laws.proofs.Chains.{one_node}
 use Rattle.ct_tree_laws.proofs.PostingTurns.{root_row}
 use Rattle.ct_tree_laws.proofs.Reaches.{in_role, kept_at, reached_root, goes_right, next_right, next_down}
 use Rattle.ct_tree.specs.Rules.{IsRoot, IsRightOf, IsDownOf, IsNext}
-use Rattle.ct_tree.specs.Roles.{HasRole, way_of, way_here, way_moved, way_after, over_after, came_by}
+use Rattle.ct_tree.specs.Roles.{HasRole, finds_leaf, way_of, way_here, way_moved, way_after, over_after, came_by}
 
 -- the page of an operation after a turn stands as it was reached
 abbrev pub Comes : Walk → World → World → Stage → Reach → Reach → Stage → Type 0
@@ -41,14 +41,14 @@ by_page now page next target one other same apart = by_test (page == next) refl
     by_test false is = apart (λ equal. false≢true (sym is ∙ eq-eqb page next equal))
 
 -- an operation comes from a page to a next one, which may be the same
-pub comes_to : (walk : Walk) (w now : World) (from to : Stage) (reach over : Reach) (page next : ℕ) → page_of from ≡ Some page → page_of to ≡ Some next → IsReachedAt (Some page) (way_here to reach) now → ((page ≡ next → ⊥) → IsReachedAt (Some next) (way_moved (over_of from) (over_of to) over (way_of walk from w)) now) → Comes walk w now from reach over to
+pub comes_to : (walk : Walk) (w now : World) (from to : Stage) (reach over : Reach) (page next : ℕ) → page_of from ≡ Some page → page_of to ≡ Some next → IsReachedAt (Some page) (way_here (finds_leaf from) to reach) now → ((page ≡ next → ⊥) → IsReachedAt (Some next) (way_moved (over_of from) (over_of to) over (way_of walk from w)) now) → Comes walk w now from reach over to
 comes_to walk w now from to reach over page next was is here moved =
-    subst (λ q. IsReachedAt q (way_after walk (page_of from) (over_of from) q to reach over (way_of walk from w)) now) (sym is)
-    (subst (λ p. IsReachedAt (Some next) (way_after walk p (over_of from) (Some next) to reach over (way_of walk from w)) now) (sym was)
-    (by_page now page next next (way_here to reach) (way_moved (over_of from) (over_of to) over (way_of walk from w)) (λ one. subst (λ p. IsReachedAt (Some p) (way_here to reach) now) one here) moved))
+    subst (λ q. IsReachedAt q (way_after walk (page_of from) (over_of from) (finds_leaf from) q to reach over (way_of walk from w)) now) (sym is)
+    (subst (λ p. IsReachedAt (Some next) (way_after walk p (over_of from) (finds_leaf from) (Some next) to reach over (way_of walk from w)) now) (sym was)
+    (by_page now page next next (way_here (finds_leaf from) to reach) (way_moved (over_of from) (over_of to) over (way_of walk from w)) (λ one. subst (λ p. IsReachedAt (Some p) (way_here (finds_leaf from) to reach) now) one here) moved))
 
 -- and one that stays at its page
-pub comes_here : (walk : Walk) (w now : World) (from to : Stage) (reach over : Reach) (page : ℕ) → page_of from ≡ Some page → page_of to ≡ Some page → IsReachedAt (Some page) (way_here to reach) now → Comes walk w now from reach over to
+pub comes_here : (walk : Walk) (w now : World) (from to : Stage) (reach over : Reach) (page : ℕ) → page_of from ≡ Some page → page_of to ≡ Some page → IsReachedAt (Some page) (way_here (finds_leaf from) to reach) now → Comes walk w now from reach over to
 comes_here walk w now from to reach over page was is here = comes_to walk w now from to reach over page page was is here (λ differ. absurd (differ refl))
 
 -- the root, to which a walk comes from no page

@@ -15,10 +15,21 @@ use Rattle.ct_node.specs.Worlds.{World, no_mark}
 use Rattle.ct_tree_laws.specs.declared.walk.Walk.{Walk}
 use Rattle.ct_tree_laws.specs.declared.walk.Stage.{Stage}
 use Rattle.ct_tree_laws.specs.declared.walk.Stage.TheVariants as stage
+use Rattle.ct_tree_laws.specs.declared.left.Way.{Way}
+use Rattle.ct_tree_laws.specs.declared.rise.Rise.{Rise}
+use Rattle.ct_tree_laws.specs.declared.rise.Separator.{Separator}
 use Rattle.ct_tree_laws.specs.Trees.{Chain}
 use Rattle.ct_tree_laws.specs.Stands.{KeepsKeys, ChangesKeys, added, without}
 use Rattle.ct_tree.specs.declared.seek.Seek.{Seek}
 use Rattle.ct_tree.specs.declared.seek.Seek.TheVariants.{AtOrAbove, Above, AtOrBelow, Below}
+
+-- a stage of a search on its way to the left
+abbrev pub IsLeft : Bool → Stage → Type 0
+IsLeft or_at at = (low : Pair) × (way : Way) × (at ≡ stage.Left low or_at way)
+
+-- a stage of a posting
+abbrev pub IsPosting : Stage → Type 0
+IsPosting at = (separator : Separator) × (rise : Rise) × (at ≡ stage.Post separator rise)
 
 -- whether a turn has ended its call
 abbrev pub is_done : Turn (Unit {0}) → Bool

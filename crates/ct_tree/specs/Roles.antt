@@ -1,5 +1,5 @@
 -- The role of the page that an operation has come to: how it came there, and that it goes on from no page outside its role.
-use Rattle.std.specs.Prelude.{◌≡◌, ℕ, ◌==◌, ◌⊎◌, Bool, true, false, if◌then◌else◌, Option, Some, None, IsTrue}
+use Rattle.std.specs.Prelude.{◌≡◌, ℕ, ◌==◌, ◌&&◌, not, Bool, true, false, if◌then◌else◌, Option, Some, None}
 use Rattle.ct_definitions.specs.Pairs.{Pair}
 use Rattle.ct_disk.specs.declared.turn.Turn.{Turn}
 use Rattle.ct_disk.specs.declared.turn.Turn.TheVariants.{Done, More, Busy, Refused}
@@ -7,7 +7,6 @@ use Rattle.ct_node.specs.declared.reach.Reach.{Reach}
 use Rattle.ct_node.specs.declared.target.Target.TheVariants.{At, Before}
 use Rattle.ct_node.specs.Nodes.{NodeValue}
 use Rattle.ct_node.specs.Reaches.{is_in_role, reach_root, reach_right, reach_half, reach_next}
-use Rattle.ct_node.specs.Turns.{OnMore}
 use Rattle.ct_node.specs.Worlds.{World, PageValue, Blank, Defines, Holds, page_at}
 use Rattle.ct_tree_laws.specs.declared.walk.Walk.{Walk}
 use Rattle.ct_tree_laws.specs.declared.walk.Stage.{Stage}
@@ -80,9 +79,9 @@ finds_leaf (stage.Leaf page) = true
 finds_leaf (stage.Left low or_at way) = finds_left way
 finds_leaf other = false
 
--- the way to the page of an operation that stays there; one that has found its leaf knows that it is one
-abbrev pub way_here : Stage → Reach → Reach
-way_here to before = if finds_leaf to then record before { leaf = Some true } else before
+-- the way to the page of an operation that stays there; one that finds its leaf there knows then that it is one
+abbrev pub way_here : Bool → Stage → Reach → Reach
+way_here found to before = if finds_leaf to && not found then record before { leaf = Some true } else before
 
 -- the way to another page: to the page above, as the walk had come there, where it goes up to that; and else that from its page
 abbrev pub way_moved : Option ℕ → Option ℕ → Reach → Reach → Reach
@@ -91,14 +90,14 @@ way_moved (Some above) None over on = over
 way_moved (Some above) (Some now) over on = on
 
 -- the way to the page of an operation after a turn: from no page it came to the root
-abbrev pub way_after : Walk → Option ℕ → Option ℕ → Option ℕ → Stage → Reach → Reach → Reach → Reach
-way_after walk None above now to before over on = reach_root walk.at walk.target
-way_after walk (Some page) above None to before over on = before
-way_after walk (Some page) above (Some next) to before over on = if page == next then way_here to before else way_moved above (over_of to) over on
+abbrev pub way_after : Walk → Option ℕ → Option ℕ → Bool → Option ℕ → Stage → Reach → Reach → Reach → Reach
+way_after walk page above found None to before over on = before
+way_after walk None above found (Some next) to before over on = reach_root walk.at walk.target
+way_after walk (Some page) above found (Some next) to before over on = if page == next then way_here found to before else way_moved above (over_of to) over on
 
 -- how an operation has come to its page after a turn
 abbrev pub came_by : Walk → World → Stage → Stage → Reach → Reach → Reach
-came_by walk w from to before over = way_after walk (page_of from) (over_of from) (page_of to) to before over (way_of walk from w)
+came_by walk w from to before over = way_after walk (page_of from) (over_of from) (finds_leaf from) (page_of to) to before over (way_of walk from w)
 
 -- the way to the page above after a turn: that of the page from which the walk has just gone down, and else as it was
 abbrev pub over_after : Option ℕ → Option ℕ → ℕ → Reach → Reach → Reach
@@ -122,9 +121,19 @@ new_ways walk = record { at = reach_root walk.at walk.target; over = reach_root 
 abbrev pub Comes : Walk → World → Stage → Stage → Ways → Ways → Type 0
 Comes walk w from to before after = (after.at ≡ came_by walk w from to before.at before.over) × CameOver from to before.at before.over after.over
 
--- a turn that goes on tells the way from its page, unless it stays there
-abbrev pub TellsWay : Turn (Unit {0}) → Walk → World → Stage → Stage → Reach → Type 0
-TellsWay turn walk w from to on = OnMore turn ((on ≡ way_of walk from w) ⊎ (to ≡ from))
+-- what a turn leaves of the ways: they are those by which it came where it goes on, and else stay
+abbrev pub Follows : Turn (Unit {0}) → Walk → World → Stage → Stage → Ways → Ways → Type 0
+Follows (Done answer) walk w from to before after = after ≡ before
+Follows More walk w from to before after = Comes walk w from to before after
+Follows (Busy op) walk w from to before after = after ≡ before
+Follows (Refused fault) walk w from to before after = after ≡ before
+
+-- and of the way to its page, of an operation that remembers no page above
+abbrev pub Arrives : Turn (Unit {0}) → Walk → World → Stage → Stage → Reach → Reach → Type 0
+Arrives (Done answer) walk w from to before after = after ≡ before
+Arrives More walk w from to before after = (over : Reach) → after ≡ came_by walk w from to before over
+Arrives (Busy op) walk w from to before after = after ≡ before
+Arrives (Refused fault) walk w from to before after = after ≡ before
 
 -- whether a turn is to be followed by another
 abbrev pub is_more : {T : Type 0} → Turn T → Bool

@@ -4,7 +4,7 @@ ghost use Rattle.std.specs.Prelude.{◌≡◌, ◌==◌, ◌&&◌, IsTrue, IfSom
 ghost use Rattle.ct_node.specs.Turns.{OnDone, OnBusy, CausedTurn, LeavesLess};
 ghost use Rattle.ct_node.specs.declared.root.Mark.{Mark};
 ghost use Rattle.ct_tree.specs.Moves.{looked_at};
-ghost use Rattle.ct_tree.specs.Roles.{HasRole};
+ghost use Rattle.ct_tree.specs.Roles.{HasRole, Arrives};
 ghost use Rattle.ct_tree_laws.specs.Stands.{Stands, Stepped, KeepsKeys};
 ghost use Rattle.ct_tree.specs.Answers.{is_done, IsInTheWay, IsPutting, IsTaking, IsFinding, IsSearching, answer_with, is_for};
 ghost use Rattle.ct_tree.specs.Rules.{IsTurned, leads_to};
@@ -12,6 +12,7 @@ ghost use Rattle.ct_tree.specs.Rules.{IsTurned, leads_to};
 use ct_disk::Turn;
 use ct_node::{Node, Nodes, Pair, Place, Reach};
 use ct_tree_laws::{Stage, Walk};
+use std::alloc::Global;
 
 /// Whether a turn has ended its call.
 pub(crate) fn is_done(turn: &Turn<()>) -> bool
@@ -51,86 +52,89 @@ pub(crate) fn visit<N: Nodes>(op: u64, page: Option<u64>, reach: &Reach, nodes: 
     seen
 }
 
-/// What a turn leaves: the stage, the answer, what is told with it, and the way from the page that
-/// was looked at.
-#[derive(Drop)]
-pub(crate) struct Step<T> {
-    pub(crate) stage: Stage,
-    pub(crate) turn: Turn<()>,
-    pub(crate) told: T,
-    pub(crate) on: Reach,
-}
-
-/// A turn that stays at its stage.
-pub(crate) fn stays<T: Drop>(walk: &Walk, stage: Stage, turn: Turn<()>, told: T) -> Step<T>
-    ensures stage { result.stage ≡ stage }
-    ensures turn { result.turn ≡ turn }
-    ensures told { result.told ≡ told }
-{
-    Step {
-        stage,
-        turn,
-        told,
-        on: Reach::root(walk.at, &walk.target),
-    }
-}
-
 /// Reads the root.
-pub(crate) fn start<N: Nodes>(walk: &Walk, nodes: &mut N) -> (Stage, Turn<()>)
-    requires { Stands walk.now Stage.Start (N.world nodes.old) }
-    ensures stepped { Stepped walk.now result.0 (N.world nodes.old) (N.world nodes.new) }
-    ensures rule { IsTurned result.1 walk.now (N.world nodes.old) (N.world nodes.new) (N.left nodes.old) (N.left nodes.new) Stage.Start result.0 }
+pub(crate) fn start<N: Nodes>(
+    walk: &Walk,
+    stage: &mut Stage,
+    reach: &mut Reach,
+    nodes: &mut N,
+) -> Turn<()>
+    requires at { stage.old ≡ Stage.Start }
+    requires stands { Stands walk.now Stage.Start (N.world nodes.old) }
+    ensures stepped { Stepped walk.now stage.new (N.world nodes.old) (N.world nodes.new) }
+    ensures rule { IsTurned result walk.now (N.world nodes.old) (N.world nodes.new) (N.left nodes.old) (N.left nodes.new) Stage.Start stage.new }
     ensures keys { KeepsKeys (N.world nodes.old) (N.world nodes.new) }
-    ensures going { is_done result.1 ≡ false }
-    ensures putting { IsPutting result.0 }
-    ensures taking { IsTaking result.0 }
-    ensures searching { (above : _) → IsSearching above result.0 }
-    ensures finding { IsFinding result.0 }
+    ensures going { is_done result ≡ false }
+    ensures putting { IsPutting stage.new }
+    ensures taking { IsTaking stage.new }
+    ensures searching { (above : _) → IsSearching above stage.new }
+    ensures finding { IsFinding stage.new }
     ensures bears { N.marked nodes.new ≡ N.marked nodes.old }
-    ensures busy { OnBusy result.1 (IsInTheWay (N.flushes nodes.old) (N.world nodes.old) walk.now.op) }
-    ensures cause { CausedTurn result.1 (N.faults nodes.old) (N.faults nodes.new) (N.halted nodes.old) (N.halted nodes.new) }
+    ensures busy { OnBusy result (IsInTheWay (N.flushes nodes.old) (N.world nodes.old) walk.now.op) }
+    ensures cause { CausedTurn result (N.faults nodes.old) (N.faults nodes.new) (N.halted nodes.old) (N.halted nodes.new) }
+    ensures arrives { Arrives result walk.now (N.world nodes.old) Stage.Start stage.new reach.old reach.new }
 {
-    match nodes.root(walk.op, walk.at) {
-        Turn::Done(page) => (Stage::Down { page }, Turn::More),
-        Turn::More => (Stage::Start, Turn::More),
-        Turn::Busy { op } => (Stage::Start, Turn::Busy { op }),
-        Turn::Refused(fault) => (Stage::Start, Turn::Refused(fault)),
-    }
+    let root = match nodes.root(walk.op, walk.at) {
+        Turn::Done(page) => page,
+        Turn::More => return Turn::More,
+        Turn::Busy { op } => return Turn::Busy { op },
+        Turn::Refused(fault) => return Turn::Refused(fault),
+    };
+    *reach = Reach::root(walk.at, &walk.target);
+    *stage = Stage::Down { page: root };
+    Turn::More
 }
 
 /// Goes on from a page: right, down, or to a latch on the leaf that it is.
-pub(crate) fn descend<N: Nodes>(walk: &Walk, nodes: &mut N, page: u64) -> (Stage, Turn<()>)
+pub(crate) fn descend<N: Nodes>(
+    alloc: Global,
+    walk: &Walk,
+    page: u64,
+    stage: &mut Stage,
+    reach: &mut Reach,
+    nodes: &mut N,
+) -> Turn<()>
+    requires at { stage.old ≡ Stage.Down page }
     requires stands { Stands walk.now (Stage.Down page) (N.world nodes.old) }
     requires shown { N.shows nodes.old page }
-    ensures stepped { Stepped walk.now result.0 (N.world nodes.old) (N.world nodes.new) }
-    ensures rule { IsTurned result.1 walk.now (N.world nodes.old) (N.world nodes.new) (N.left nodes.old) (N.left nodes.new) (Stage.Down page) result.0 }
+    ensures stepped { Stepped walk.now stage.new (N.world nodes.old) (N.world nodes.new) }
+    ensures rule { IsTurned result walk.now (N.world nodes.old) (N.world nodes.new) (N.left nodes.old) (N.left nodes.new) (Stage.Down page) stage.new }
     ensures keys { KeepsKeys (N.world nodes.old) (N.world nodes.new) }
-    ensures going { is_done result.1 ≡ false }
-    ensures putting { IsPutting result.0 }
-    ensures taking { IsTaking result.0 }
-    ensures searching { (above : _) → IsSearching above result.0 }
-    ensures finding { IsFinding result.0 }
+    ensures going { is_done result ≡ false }
+    ensures putting { IsPutting stage.new }
+    ensures taking { IsTaking stage.new }
+    ensures searching { (above : _) → IsSearching above stage.new }
+    ensures finding { IsFinding stage.new }
     ensures bears { N.marked nodes.new ≡ N.marked nodes.old }
-    ensures busy { OnBusy result.1 (IsInTheWay (N.flushes nodes.old) (N.world nodes.old) walk.now.op) }
-    ensures cause { CausedTurn result.1 (N.faults nodes.old) (N.faults nodes.new) (N.halted nodes.old) (N.halted nodes.new) }
+    ensures busy { OnBusy result (IsInTheWay (N.flushes nodes.old) (N.world nodes.old) walk.now.op) }
+    ensures cause { CausedTurn result (N.faults nodes.old) (N.faults nodes.new) (N.halted nodes.old) (N.halted nodes.new) }
+    ensures arrives { Arrives result walk.now (N.world nodes.old) (Stage.Down page) stage.new reach.old reach.new }
 {
     let node = nodes.node(page);
-    let leaf = node.is_leaf();
-    let place = node.next_place(&walk.target);
-    if leads_to(place, page) {
-        return (Stage::Down { page }, Turn::Refused(nodes.bad(page)));
-    }
-    match place {
-        Place::Right(right) => return (Stage::Down { page: right }, Turn::More),
-        Place::Down(below) => return (Stage::Down { page: below }, Turn::More),
-        Place::Here(_) => return (Stage::Leaf { page }, Turn::More),
-        Place::End => {
-            if leaf {
-                return (Stage::Leaf { page }, Turn::More);
-            }
-            return (Stage::Down { page }, Turn::Refused(nodes.bad(page)));
+    if node.is_past(&walk.target) {
+        let right = node.right();
+        if right == page {
+            return Turn::Refused(nodes.bad(page));
         }
+        node.come_right(alloc, reach);
+        *stage = Stage::Down { page: right };
+        return Turn::More;
     }
+    if node.is_leaf() {
+        reach.leaf = Some(true);
+        *stage = Stage::Leaf { page };
+        return Turn::More;
+    }
+    let place = node.place_below(&walk.target);
+    let Some(below) = node.child(place) else {
+        return Turn::Refused(nodes.bad(page));
+    };
+    if below == page {
+        return Turn::Refused(nodes.bad(page));
+    }
+    node.come_below(alloc, place, reach);
+    *stage = Stage::Down { page: below };
+    Turn::More
 }
 
 /// Whether a walk goes on to this page.
@@ -146,23 +150,30 @@ pub(crate) fn leads_to(place: Place, page: u64) -> bool
 }
 
 /// Makes the leaf that was found the operation's own.
-pub(crate) fn own_leaf<N: Nodes>(walk: &Walk, nodes: &mut N, page: u64) -> (Stage, Turn<()>)
-    requires { Stands walk.now (Stage.Leaf page) (N.world nodes.old) }
-    ensures stepped { Stepped walk.now result.0 (N.world nodes.old) (N.world nodes.new) }
-    ensures rule { IsTurned result.1 walk.now (N.world nodes.old) (N.world nodes.new) (N.left nodes.old) (N.left nodes.new) (Stage.Leaf page) result.0 }
+pub(crate) fn own_leaf<N: Nodes>(
+    walk: &Walk,
+    page: u64,
+    stage: &mut Stage,
+    nodes: &mut N,
+) -> Turn<()>
+    requires at { stage.old ≡ Stage.Leaf page }
+    requires stands { Stands walk.now (Stage.Leaf page) (N.world nodes.old) }
+    ensures stepped { Stepped walk.now stage.new (N.world nodes.old) (N.world nodes.new) }
+    ensures rule { IsTurned result walk.now (N.world nodes.old) (N.world nodes.new) (N.left nodes.old) (N.left nodes.new) (Stage.Leaf page) stage.new }
     ensures keys { KeepsKeys (N.world nodes.old) (N.world nodes.new) }
-    ensures going { is_done result.1 ≡ false }
-    ensures putting { IsPutting result.0 }
-    ensures taking { IsTaking result.0 }
+    ensures going { is_done result ≡ false }
+    ensures putting { IsPutting stage.new }
+    ensures taking { IsTaking stage.new }
     ensures bears { N.marked nodes.new ≡ N.marked nodes.old }
-    ensures busy { OnBusy result.1 (IsInTheWay (N.flushes nodes.old) (N.world nodes.old) walk.now.op) }
-    ensures cause { CausedTurn result.1 (N.faults nodes.old) (N.faults nodes.new) (N.halted nodes.old) (N.halted nodes.new) }
+    ensures busy { OnBusy result (IsInTheWay (N.flushes nodes.old) (N.world nodes.old) walk.now.op) }
+    ensures cause { CausedTurn result (N.faults nodes.old) (N.faults nodes.new) (N.halted nodes.old) (N.halted nodes.new) }
 {
     let owned = nodes.own(walk.op, page);
     if !is_done(&owned) {
-        return (Stage::Leaf { page }, owned);
+        return owned;
     }
-    (Stage::Held { page }, Turn::More)
+    *stage = Stage::Held { page };
+    Turn::More
 }
 
 /// Whether a node is a leaf that a pair may stand in.
@@ -173,23 +184,30 @@ pub(crate) fn is_for(node: &Node, pair: &Pair) -> bool
 }
 
 /// One turn on the way to a leaf that is to be the operation's own.
-pub(crate) fn find_leaf<N: Nodes>(walk: &Walk, stage: Stage, nodes: &mut N) -> (Stage, Turn<()>)
-    requires stands { Stands walk.now stage (N.world nodes.old) }
-    requires finding { IsFinding stage }
-    requires shown { IfSome (looked_at stage) (N.shows nodes.old) }
-    ensures stepped { Stepped walk.now result.0 (N.world nodes.old) (N.world nodes.new) }
-    ensures rule { IsTurned result.1 walk.now (N.world nodes.old) (N.world nodes.new) (N.left nodes.old) (N.left nodes.new) stage result.0 }
+pub(crate) fn find_leaf<N: Nodes>(
+    alloc: Global,
+    walk: &Walk,
+    stage: &mut Stage,
+    reach: &mut Reach,
+    nodes: &mut N,
+) -> Turn<()>
+    requires stands { Stands walk.now stage.old (N.world nodes.old) }
+    requires finding { IsFinding stage.old }
+    requires shown { IfSome (looked_at stage.old) (N.shows nodes.old) }
+    ensures stepped { Stepped walk.now stage.new (N.world nodes.old) (N.world nodes.new) }
+    ensures rule { IsTurned result walk.now (N.world nodes.old) (N.world nodes.new) (N.left nodes.old) (N.left nodes.new) stage.old stage.new }
     ensures keys { KeepsKeys (N.world nodes.old) (N.world nodes.new) }
-    ensures going { is_done result.1 ≡ false }
-    ensures taking { IsTaking result.0 }
+    ensures going { is_done result ≡ false }
+    ensures taking { IsTaking stage.new }
     ensures bears { N.marked nodes.new ≡ N.marked nodes.old }
-    ensures busy { OnBusy result.1 (IsInTheWay (N.flushes nodes.old) (N.world nodes.old) walk.now.op) }
-    ensures cause { CausedTurn result.1 (N.faults nodes.old) (N.faults nodes.new) (N.halted nodes.old) (N.halted nodes.new) }
+    ensures busy { OnBusy result (IsInTheWay (N.flushes nodes.old) (N.world nodes.old) walk.now.op) }
+    ensures cause { CausedTurn result (N.faults nodes.old) (N.faults nodes.new) (N.halted nodes.old) (N.halted nodes.new) }
+    ensures arrives { Arrives result walk.now (N.world nodes.old) stage.old stage.new reach.old reach.new }
 {
-    match stage {
-        Stage::Start => return start(walk, nodes),
-        Stage::Down { page } => return descend(walk, nodes, page),
-        Stage::Leaf { page } => return own_leaf(walk, nodes, page),
+    match *stage {
+        Stage::Start => start(walk, stage, reach, nodes),
+        Stage::Down { page } => descend(alloc, walk, page, stage, reach, nodes),
+        Stage::Leaf { page } => own_leaf(walk, page, stage, nodes),
         Stage::Held { page: _ } => unreachable!(),
         Stage::Full { page: _ } => unreachable!(),
         Stage::Split { page: _, right: _ } => unreachable!(),

@@ -1,51 +1,67 @@
 //! Searching to the left: shared latches from the leaf of the target to the leaf of the answer, each
 //! of which is found by a descent of its own to the leaf that ends where the one before begins.
 
-ghost use Rattle.std.specs.Prelude.{◌≡◌, IfSome, false};
+ghost use Rattle.std.specs.Prelude.{◌≡◌, IfSome, None, false};
 ghost use Rattle.ct_node.specs.declared.target.Target.TheVariants.{Before};
 ghost use Rattle.ct_node.specs.Places.{next_place};
 ghost use Rattle.ct_node.specs.Turns.{OnBusy, CausedTurn};
 ghost use Rattle.ct_tree_laws.specs.Stands.{Stands, Stepped, KeepsKeys};
-ghost use Rattle.ct_tree.specs.Answers.{is_done, TellsFound, IsInTheWay, IsSearchingLeft, found_left};
+ghost use Rattle.ct_tree.specs.Answers.{is_done, TellsFound, IsInTheWay, IsSearchingLeft, found_left, IsLeft};
 ghost use Rattle.ct_tree.specs.Rules.{IsTurned};
 ghost use Rattle.ct_tree.specs.Moves.{looked_at, looked_on};
+ghost use Rattle.ct_tree.specs.Roles.{Follows, Arrives};
 
 use crate::descent::{descend, is_done, leads_to, start};
+use crate::roles::{Trail, Ways, way_of};
 use ct_disk::Turn;
-use ct_node::{Node, Nodes, Pair, Place, Target};
+use ct_node::{Node, Nodes, Pair, Place, Reach, Target};
 use ct_tree_laws::{Stage, Walk, Way};
 use std::alloc::Global;
+use std::mem::replace;
 
 /// The turn of a search to the left at a stage.
 pub(crate) fn left_step<N: Nodes>(
     alloc: Global,
     walk: &Walk,
     or_at: bool,
-    stage: Stage,
+    stage: &mut Stage,
+    ways: &mut Ways,
     nodes: &mut N,
-) -> (Stage, Turn<()>, Option<Pair>)
-    requires stands { Stands walk.now stage (N.world nodes.old) }
-    requires open { IsSearchingLeft or_at stage }
-    requires shown { IfSome (looked_at stage) (N.shows nodes.old) }
-    ensures stepped { Stepped walk.now result.0 (N.world nodes.old) (N.world nodes.new) }
-    ensures rule { IsTurned result.1 walk.now (N.world nodes.old) (N.world nodes.new) (N.left nodes.old) (N.left nodes.new) stage result.0 }
+    found: &mut Option<Pair>,
+) -> Turn<()>
+    requires unfound { found.old ≡ None }
+    requires stands { Stands walk.now stage.old (N.world nodes.old) }
+    requires open { IsSearchingLeft or_at stage.old }
+    requires shown { IfSome (looked_at stage.old) (N.shows nodes.old) }
+    ensures stepped { Stepped walk.now stage.new (N.world nodes.old) (N.world nodes.new) }
+    ensures rule { IsTurned result walk.now (N.world nodes.old) (N.world nodes.new) (N.left nodes.old) (N.left nodes.new) stage.old stage.new }
     ensures keys { KeepsKeys (N.world nodes.old) (N.world nodes.new) }
-    ensures found { TellsFound walk.now (found_left or_at) result.1 result.2 (N.world nodes.old) }
-    ensures searching { IsSearchingLeft or_at result.0 }
+    ensures found { TellsFound walk.now (found_left or_at) result found.new (N.world nodes.old) }
+    ensures searching { IsSearchingLeft or_at stage.new }
     ensures bears { N.marked nodes.new ≡ N.marked nodes.old }
-    ensures busy { OnBusy result.1 (IsInTheWay (N.flushes nodes.old) (N.world nodes.old) walk.now.op) }
-    ensures cause { CausedTurn result.1 (N.faults nodes.old) (N.faults nodes.new) (N.halted nodes.old) (N.halted nodes.new) }
+    ensures busy { OnBusy result (IsInTheWay (N.flushes nodes.old) (N.world nodes.old) walk.now.op) }
+    ensures cause { CausedTurn result (N.faults nodes.old) (N.faults nodes.new) (N.halted nodes.old) (N.halted nodes.new) }
+    ensures follows { Follows result walk.now (N.world nodes.old) stage.old stage.new ways.old ways.new }
 {
-    match stage {
-        Stage::Start => return going(start(walk, nodes)),
-        Stage::Down { page } => return going(descend(walk, nodes, page)),
-        Stage::Leaf { page } => return going(share_first(walk, nodes, page)),
-        Stage::SharedLeft { page } => return look_first(alloc, walk, or_at, nodes, page),
+    match *stage {
+        Stage::Start => start(walk, stage, &mut ways.at, nodes),
+        Stage::Down { page } => descend(alloc, walk, page, stage, &mut ways.at, nodes),
+        Stage::Leaf { page } => share_first(walk, page, stage, nodes),
+        Stage::SharedLeft { page } => look_first(
+            alloc,
+            walk,
+            or_at,
+            page,
+            stage,
+            &mut ways.at,
+            nodes,
+            found,
+        ),
         Stage::Left {
-            low,
-            or_at: over,
-            way,
-        } => return go_left(alloc, walk, over, nodes, low, way),
+            low: _,
+            or_at: _,
+            way: _,
+        } => step_left(alloc, walk, or_at, stage, ways, nodes, found),
         Stage::Held { page: _ } => unreachable!(),
         Stage::Full { page: _ } => unreachable!(),
         Stage::Split { page: _, right: _ } => unreachable!(),
@@ -69,23 +85,24 @@ fn going(step: (Stage, Turn<()>)) -> (Stage, Turn<()>, Option<Pair>)
 }
 
 /// Shares the leaf of the target.
-fn share_first<N: Nodes>(walk: &Walk, nodes: &mut N, page: u64) -> (Stage, Turn<()>)
-    requires { Stands walk.now (Stage.Leaf page) (N.world nodes.old) }
-    ensures stepped { Stepped walk.now result.0 (N.world nodes.old) (N.world nodes.new) }
-    ensures rule { IsTurned result.1 walk.now (N.world nodes.old) (N.world nodes.new) (N.left nodes.old) (N.left nodes.new) (Stage.Leaf page) result.0 }
+fn share_first<N: Nodes>(walk: &Walk, page: u64, stage: &mut Stage, nodes: &mut N) -> Turn<()>
+    requires at { stage.old ≡ Stage.Leaf page }
+    requires stands { Stands walk.now (Stage.Leaf page) (N.world nodes.old) }
+    ensures stepped { Stepped walk.now stage.new (N.world nodes.old) (N.world nodes.new) }
+    ensures rule { IsTurned result walk.now (N.world nodes.old) (N.world nodes.new) (N.left nodes.old) (N.left nodes.new) (Stage.Leaf page) stage.new }
     ensures keys { KeepsKeys (N.world nodes.old) (N.world nodes.new) }
-    ensures going { is_done result.1 ≡ false }
-    ensures searching { (or_at : _) → IsSearchingLeft or_at result.0 }
+    ensures going { is_done result ≡ false }
+    ensures searching { (or_at : _) → IsSearchingLeft or_at stage.new }
     ensures bears { N.marked nodes.new ≡ N.marked nodes.old }
-    ensures busy { OnBusy result.1 (IsInTheWay (N.flushes nodes.old) (N.world nodes.old) walk.now.op) }
-    ensures cause { CausedTurn result.1 (N.faults nodes.old) (N.faults nodes.new) (N.halted nodes.old) (N.halted nodes.new) }
+    ensures busy { OnBusy result (IsInTheWay (N.flushes nodes.old) (N.world nodes.old) walk.now.op) }
+    ensures cause { CausedTurn result (N.faults nodes.old) (N.faults nodes.new) (N.halted nodes.old) (N.halted nodes.new) }
 {
-    match nodes.share(walk.op, page) {
-        Turn::Done(()) => return (Stage::SharedLeft { page }, Turn::More),
-        Turn::More => return (Stage::Leaf { page }, Turn::More),
-        Turn::Busy { op } => return (Stage::Leaf { page }, Turn::Busy { op }),
-        Turn::Refused(fault) => return (Stage::Leaf { page }, Turn::Refused(fault)),
+    let shared = nodes.share(walk.op, page);
+    if !is_done(&shared) {
+        return shared;
     }
+    *stage = Stage::SharedLeft { page };
+    Turn::More
 }
 
 /// Looks at the leaf of the target: answers a pair of it, or goes on to the left and keeps it. A
@@ -94,37 +111,86 @@ fn look_first<N: Nodes>(
     alloc: Global,
     walk: &Walk,
     or_at: bool,
-    nodes: &mut N,
     page: u64,
-) -> (Stage, Turn<()>, Option<Pair>)
+    stage: &mut Stage,
+    reach: &mut Reach,
+    nodes: &mut N,
+    found: &mut Option<Pair>,
+) -> Turn<()>
+    requires at { stage.old ≡ Stage.SharedLeft page }
+    requires unfound { found.old ≡ None }
     requires stands { Stands walk.now (Stage.SharedLeft page) (N.world nodes.old) }
     requires shown { N.shows nodes.old page }
-    ensures stepped { Stepped walk.now result.0 (N.world nodes.old) (N.world nodes.new) }
-    ensures rule { IsTurned result.1 walk.now (N.world nodes.old) (N.world nodes.new) (N.left nodes.old) (N.left nodes.new) (Stage.SharedLeft page) result.0 }
+    ensures stepped { Stepped walk.now stage.new (N.world nodes.old) (N.world nodes.new) }
+    ensures rule { IsTurned result walk.now (N.world nodes.old) (N.world nodes.new) (N.left nodes.old) (N.left nodes.new) (Stage.SharedLeft page) stage.new }
     ensures keys { KeepsKeys (N.world nodes.old) (N.world nodes.new) }
-    ensures found { TellsFound walk.now (found_left or_at) result.1 result.2 (N.world nodes.old) }
-    ensures searching { IsSearchingLeft or_at result.0 }
+    ensures found { TellsFound walk.now (found_left or_at) result found.new (N.world nodes.old) }
+    ensures searching { IsSearchingLeft or_at stage.new }
     ensures bears { N.marked nodes.new ≡ N.marked nodes.old }
-    ensures busy { OnBusy result.1 (IsInTheWay (N.flushes nodes.old) (N.world nodes.old) walk.now.op) }
-    ensures cause { CausedTurn result.1 (N.faults nodes.old) (N.faults nodes.new) (N.halted nodes.old) (N.halted nodes.new) }
+    ensures busy { OnBusy result (IsInTheWay (N.flushes nodes.old) (N.world nodes.old) walk.now.op) }
+    ensures cause { CausedTurn result (N.faults nodes.old) (N.faults nodes.new) (N.halted nodes.old) (N.halted nodes.new) }
+    ensures arrives { Arrives result walk.now (N.world nodes.old) (Stage.SharedLeft page) stage.new reach.old reach.new }
 {
     let node = nodes.node(page);
-    if let Place::Right(right) = node.next_place(&walk.target) {
+    if node.is_past(&walk.target) {
+        let right = node.right();
+        if right == page {
+            return Turn::Refused(nodes.bad(page));
+        }
+        node.come_right(alloc, reach);
         nodes.free_all(walk.op);
-        return (Stage::Down { page: right }, Turn::More, None);
+        *stage = Stage::Down { page: right };
+        return Turn::More;
     }
     let ahead = node.count_ahead(&walk.target, or_at);
     if ahead > 0 {
-        let pair = node.pair(alloc, ahead - 1);
-        return (Stage::SharedLeft { page }, Turn::Done(()), Some(pair));
+        *found = Some(node.pair(alloc, ahead - 1));
+        return Turn::Done(());
     }
-    match node.low(alloc) {
-        Some(low) => {
-            let way = Way::Start;
-            return (Stage::Left { low, or_at, way }, Turn::More, None);
-        }
-        None => return (Stage::SharedLeft { page }, Turn::Done(()), None),
-    }
+    let Some(low) = node.low(alloc) else {
+        return Turn::Done(());
+    };
+    *stage = Stage::Left {
+        low,
+        or_at,
+        way: Way::Start,
+    };
+    Turn::More
+}
+
+/// One turn of a search that goes on to the left, and the way to its page.
+fn step_left<N: Nodes>(
+    alloc: Global,
+    walk: &Walk,
+    or_at: bool,
+    stage: &mut Stage,
+    ways: &mut Ways,
+    nodes: &mut N,
+    found: &mut Option<Pair>,
+) -> Turn<()>
+    requires at { IsLeft or_at stage.old }
+    requires stands { Stands walk.now stage.old (N.world nodes.old) }
+    requires shown { IfSome (looked_at stage.old) (N.shows nodes.old) }
+    ensures stepped { Stepped walk.now stage.new (N.world nodes.old) (N.world nodes.new) }
+    ensures rule { IsTurned result walk.now (N.world nodes.old) (N.world nodes.new) (N.left nodes.old) (N.left nodes.new) stage.old stage.new }
+    ensures keys { KeepsKeys (N.world nodes.old) (N.world nodes.new) }
+    ensures found { TellsFound walk.now (found_left or_at) result found.new (N.world nodes.old) }
+    ensures searching { IsSearchingLeft or_at stage.new }
+    ensures bears { N.marked nodes.new ≡ N.marked nodes.old }
+    ensures busy { OnBusy result (IsInTheWay (N.flushes nodes.old) (N.world nodes.old) walk.now.op) }
+    ensures cause { CausedTurn result (N.faults nodes.old) (N.faults nodes.new) (N.halted nodes.old) (N.halted nodes.new) }
+    ensures follows { Follows result walk.now (N.world nodes.old) stage.old stage.new ways.old ways.new }
+{
+    let trail = Trail::of(stage);
+    let on = way_of(alloc, walk, stage, nodes);
+    let Stage::Left { low, or_at, way } = replace(stage, Stage::Ended) else {
+        unreachable!();
+    };
+    let (to, turn, pair) = go_left(alloc, walk, or_at, nodes, low, way);
+    *stage = to;
+    *found = pair;
+    ways.follow(walk, trail, &turn, stage, on);
+    turn
 }
 
 /// One turn of a search that goes on to the left from a low bound.

@@ -9,20 +9,56 @@ ghost use Rattle.ct_node.specs.Worlds.{World, Holds, page_at, no_mark};
 ghost use Rattle.ct_node.specs.Turns.{OnBusy, CausedTurn};
 ghost use Rattle.ct_tree_laws.specs.declared.walk.Walk.{Walk};
 ghost use Rattle.ct_tree_laws.specs.Stands.{Stands, Stepped, KeepsKeys, after_post};
-ghost use Rattle.ct_tree.specs.Answers.{is_done, is_above_for, IsInTheWay, IsPutting};
+ghost use Rattle.ct_tree.specs.Answers.{is_done, is_above_for, IsInTheWay, IsPutting, IsPosting};
 ghost use Rattle.ct_tree.specs.Rules.{IsTurned, GoesToward, leaves_room};
-ghost use Rattle.ct_tree.specs.Moves.{looked_in};
+ghost use Rattle.ct_tree.specs.Moves.{looked_at, looked_in};
+ghost use Rattle.ct_tree.specs.Roles.{Follows};
 
 use crate::crown::{allocate_root, name_again, name_root, own_definition, write_root};
 use crate::descent::{is_done, leads_to};
+use crate::roles::{Trail, Ways, way_of};
 use crate::split_above::{allocate_above, cut_above, own_right, write_above};
 use ct_disk::Turn;
 use ct_node::{Mark, Node, Nodes, Pair, Place, Target};
 use ct_tree_laws::{Rise, Separator, Stage, Walk};
 use std::alloc::Global;
+use std::mem::replace;
+
+/// One turn of a put that posts a separator, and the ways to its page and to the page above.
+pub(crate) fn step_up<N: Nodes>(
+    alloc: Global,
+    walk: &Walk,
+    stage: &mut Stage,
+    ways: &mut Ways,
+    nodes: &mut N,
+    node: &mut Node,
+) -> Turn<()>
+    requires at { IsPosting stage.old }
+    requires stands { Stands walk.now stage.old (N.world nodes.old) }
+    requires shown { IfSome (looked_at stage.old) (N.shows nodes.old) }
+    ensures stepped { Stepped walk.now stage.new (N.world nodes.old) (N.world nodes.new) }
+    ensures rule { IsTurned result walk.now (N.world nodes.old) (N.world nodes.new) (N.left nodes.old) (N.left nodes.new) stage.old stage.new }
+    ensures keys { KeepsKeys (N.world nodes.old) (N.world nodes.new) }
+    ensures going { is_done result ≡ false }
+    ensures putting { IsPutting stage.new }
+    ensures bears { (N.marked nodes.new ≡ N.marked nodes.old) ⊎ (N.marked nodes.new ≡ no_mark) }
+    ensures busy { OnBusy result (IsInTheWay (N.flushes nodes.old) (N.world nodes.old) walk.now.op) }
+    ensures cause { CausedTurn result (N.faults nodes.old) (N.faults nodes.new) (N.halted nodes.old) (N.halted nodes.new) }
+    ensures follows { Follows result walk.now (N.world nodes.old) stage.old stage.new ways.old ways.new }
+{
+    let trail = Trail::of(stage);
+    let on = way_of(alloc, walk, stage, nodes);
+    let Stage::Post { separator, rise } = replace(stage, Stage::Ended) else {
+        unreachable!();
+    };
+    let (to, turn) = post(alloc, walk, nodes, separator, rise, node);
+    *stage = to;
+    ways.follow(walk, trail, &turn, stage, on);
+    turn
+}
 
 /// The turn of a put that posts a separator.
-pub(crate) fn post<N: Nodes>(
+fn post<N: Nodes>(
     alloc: Global,
     walk: &Walk,
     nodes: &mut N,

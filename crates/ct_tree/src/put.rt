@@ -9,19 +9,18 @@ ghost use Rattle.ct_tree.specs.Answers.{IsPair, PutsKeys, IsInTheWay, IsPutting,
 ghost use Rattle.ct_tree.specs.Rules.{IsTurned};
 ghost use Rattle.ct_tree.specs.Moves.{looked_at, spot_of, moves_after};
 ghost use Rattle.ct_tree.specs.Counted.{IsCounted};
-ghost use Rattle.ct_tree.specs.Roles.{HasRole, HasCome, Comes, StaysOutside, TellsWay};
+ghost use Rattle.ct_tree.specs.Roles.{HasRole, HasCome, Comes, StaysOutside, Follows, Arrives};
 ghost use Rattle.ct_tree.specs.Ends.{left_of, IsLess};
 
-use crate::descent::{Step, descend, is_done, is_for, own_leaf, start, stays, visit};
+use crate::descent::{descend, is_done, is_for, own_leaf, start, visit};
 use crate::moves::{circle_at, looked_at, moves_after, spot_of};
-use crate::post::post;
-use crate::roles::{Trail, Ways, way_of};
+use crate::post::step_up;
+use crate::roles::Ways;
 use crate::split::{allocate, cut_left, write_right};
 use ct_disk::Turn;
-use ct_node::{Mark, Node, Nodes, Place, Reach, Root, Target};
+use ct_node::{Mark, Node, Nodes, Reach, Root, Target};
 use ct_tree_laws::{Stage, Walk};
 use std::alloc::Global;
-use std::mem::replace;
 
 /// Puts one pair into an index, in turns. A pair that is there already is left as it is.
 #[derive(Drop)]
@@ -89,25 +88,16 @@ impl Put {
         if let Some(page) = circle_at(from, self.moves, pages) {
             return Turn::Refused(nodes.bad(page));
         }
-        let trail = Trail::of(&self.stage);
-        let stage = replace(&mut self.stage, Stage::Ended);
-        let Step {
-            stage,
-            turn,
-            told: _,
-            on,
-        } = put_step(
+        let turn = put_step(
             self.alloc,
             &self.walk,
             self.mark,
-            stage,
-            &self.ways.at,
+            &mut self.stage,
+            &mut self.ways,
             nodes,
             &mut self.node,
         );
-        self.stage = stage;
         self.moves = moves_after(from, spot_of(&self.stage), self.moves, pages);
-        self.ways.follow(&self.walk, trail, &turn, &self.stage, on);
         turn
     }
 }
@@ -117,38 +107,31 @@ fn put_step<N: Nodes>(
     alloc: Global,
     walk: &Walk,
     mark: Mark,
-    stage: Stage,
-    reach: &Reach,
+    stage: &mut Stage,
+    ways: &mut Ways,
     nodes: &mut N,
     node: &mut Node,
-) -> Step<()>
-    requires stands { Stands walk.now stage (N.world nodes.old) }
+) -> Turn<()>
+    requires stands { Stands walk.now stage.old (N.world nodes.old) }
     requires pair { IsPair walk.now.target }
-    requires open { IsPutting stage }
-    requires role { IsTrue (N.world nodes.old).founded → HasRole (looked_at stage) reach.now (N.world nodes.old) }
+    requires open { IsPutting stage.old }
+    requires role { IsTrue (N.world nodes.old).founded → HasRole (looked_at stage.old) ways.old.at (N.world nodes.old) }
     requires mark { N.allows nodes.old walk.now.op mark }
-    ensures stepped { Stepped walk.now result.stage (N.world nodes.old) (N.world nodes.new) }
-    ensures rule { IsTurned result.turn walk.now (N.world nodes.old) (N.world nodes.new) (N.left nodes.old) (N.left nodes.new) stage result.stage }
-    ensures role { StaysOutside result.turn stage result.stage reach.now (N.world nodes.old) }
-    ensures way { TellsWay result.turn walk.now (N.world nodes.old) stage result.stage result.on }
-    ensures keys { PutsKeys walk.now result.turn (N.world nodes.old) (N.world nodes.new) }
-    ensures goes { GoesOn result.turn result.stage }
-    ensures bears { BearsPut walk.now mark result.turn (N.world nodes.old) (N.marked nodes.old) (N.marked nodes.new) }
-    ensures busy { OnBusy result.turn (IsInTheWay (N.flushes nodes.old) (N.world nodes.old) walk.now.op) }
-    ensures cause { CausedTurn result.turn (N.faults nodes.old) (N.faults nodes.new) (N.halted nodes.old) (N.halted nodes.new) }
+    ensures stepped { Stepped walk.now stage.new (N.world nodes.old) (N.world nodes.new) }
+    ensures rule { IsTurned result walk.now (N.world nodes.old) (N.world nodes.new) (N.left nodes.old) (N.left nodes.new) stage.old stage.new }
+    ensures role { StaysOutside result stage.old stage.new ways.old.at (N.world nodes.old) }
+    ensures keys { PutsKeys walk.now result (N.world nodes.old) (N.world nodes.new) }
+    ensures goes { GoesOn result stage.new }
+    ensures bears { BearsPut walk.now mark result (N.world nodes.old) (N.marked nodes.old) (N.marked nodes.new) }
+    ensures busy { OnBusy result (IsInTheWay (N.flushes nodes.old) (N.world nodes.old) walk.now.op) }
+    ensures cause { CausedTurn result (N.faults nodes.old) (N.faults nodes.new) (N.halted nodes.old) (N.halted nodes.new) }
+    ensures follows { Follows result walk.now (N.world nodes.old) stage.old stage.new ways.old ways.new }
 {
-    let seen = visit(walk.op, looked_at(&stage), reach, nodes);
+    let seen = visit(walk.op, looked_at(stage), &ways.at, nodes);
     if !is_done(&seen) {
-        return stays(walk, stage, seen, ());
+        return seen;
     }
-    let on = way_of(alloc, walk, &stage, nodes);
-    let (stage, turn) = put_seen(alloc, walk, mark, stage, nodes, node);
-    Step {
-        stage,
-        turn,
-        told: (),
-        on,
-    }
+    put_seen(alloc, walk, mark, stage, ways, nodes, node)
 }
 
 /// The turn of a put at a stage, once the page that it looks at is at hand.
@@ -156,32 +139,37 @@ fn put_seen<N: Nodes>(
     alloc: Global,
     walk: &Walk,
     mark: Mark,
-    stage: Stage,
+    stage: &mut Stage,
+    ways: &mut Ways,
     nodes: &mut N,
     node: &mut Node,
-) -> (Stage, Turn<()>)
-    requires stands { Stands walk.now stage (N.world nodes.old) }
+) -> Turn<()>
+    requires stands { Stands walk.now stage.old (N.world nodes.old) }
     requires pair { IsPair walk.now.target }
-    requires open { IsPutting stage }
+    requires open { IsPutting stage.old }
     requires mark { N.allows nodes.old walk.now.op mark }
-    requires shown { IfSome (looked_at stage) (N.shows nodes.old) }
-    ensures stepped { Stepped walk.now result.0 (N.world nodes.old) (N.world nodes.new) }
-    ensures rule { IsTurned result.1 walk.now (N.world nodes.old) (N.world nodes.new) (N.left nodes.old) (N.left nodes.new) stage result.0 }
-    ensures keys { PutsKeys walk.now result.1 (N.world nodes.old) (N.world nodes.new) }
-    ensures goes { GoesOn result.1 result.0 }
-    ensures bears { BearsPut walk.now mark result.1 (N.world nodes.old) (N.marked nodes.old) (N.marked nodes.new) }
-    ensures busy { OnBusy result.1 (IsInTheWay (N.flushes nodes.old) (N.world nodes.old) walk.now.op) }
-    ensures cause { CausedTurn result.1 (N.faults nodes.old) (N.faults nodes.new) (N.halted nodes.old) (N.halted nodes.new) }
+    requires shown { IfSome (looked_at stage.old) (N.shows nodes.old) }
+    ensures stepped { Stepped walk.now stage.new (N.world nodes.old) (N.world nodes.new) }
+    ensures rule { IsTurned result walk.now (N.world nodes.old) (N.world nodes.new) (N.left nodes.old) (N.left nodes.new) stage.old stage.new }
+    ensures keys { PutsKeys walk.now result (N.world nodes.old) (N.world nodes.new) }
+    ensures goes { GoesOn result stage.new }
+    ensures bears { BearsPut walk.now mark result (N.world nodes.old) (N.marked nodes.old) (N.marked nodes.new) }
+    ensures busy { OnBusy result (IsInTheWay (N.flushes nodes.old) (N.world nodes.old) walk.now.op) }
+    ensures cause { CausedTurn result (N.faults nodes.old) (N.faults nodes.new) (N.halted nodes.old) (N.halted nodes.new) }
+    ensures follows { Follows result walk.now (N.world nodes.old) stage.old stage.new ways.old ways.new }
 {
-    match stage {
-        Stage::Start => return start(walk, nodes),
-        Stage::Down { page } => return descend(walk, nodes, page),
-        Stage::Leaf { page } => return own_leaf(walk, nodes, page),
-        Stage::Held { page } => return put_held(walk, mark, nodes, page, node),
-        Stage::Full { page } => return allocate(walk, nodes, page),
-        Stage::Split { page, right } => return write_right(walk, nodes, page, right, node),
-        Stage::Cut { page, right } => return cut_left(alloc, walk, nodes, page, right, node),
-        Stage::Post { separator, rise } => return post(alloc, walk, nodes, separator, rise, node),
+    match *stage {
+        Stage::Start => start(walk, stage, &mut ways.at, nodes),
+        Stage::Down { page } => descend(alloc, walk, page, stage, &mut ways.at, nodes),
+        Stage::Leaf { page } => own_leaf(walk, page, stage, nodes),
+        Stage::Held { page } => put_held(alloc, walk, mark, page, stage, &mut ways.at, nodes, node),
+        Stage::Full { page } => allocate(walk, page, stage, nodes),
+        Stage::Split { page, right } => write_right(walk, page, right, stage, nodes, node),
+        Stage::Cut { page, right } => cut_left(alloc, walk, page, right, stage, nodes, node),
+        Stage::Post {
+            separator: _,
+            rise: _,
+        } => step_up(alloc, walk, stage, ways, nodes, node),
         Stage::Share { page: _, above: _ } => unreachable!(),
         Stage::Shared { page: _, above: _ } => unreachable!(),
         Stage::SharedLeft { page: _ } => unreachable!(),
@@ -197,76 +185,88 @@ fn put_seen<N: Nodes>(
 /// Looks at the leaf again, now that it is the operation's own: goes on to the right, or puts the
 /// pair.
 pub(crate) fn put_held<N: Nodes>(
+    alloc: Global,
     walk: &Walk,
     mark: Mark,
-    nodes: &mut N,
     page: u64,
+    stage: &mut Stage,
+    reach: &mut Reach,
+    nodes: &mut N,
     node: &mut Node,
-) -> (Stage, Turn<()>)
+) -> Turn<()>
+    requires at { stage.old ≡ Stage.Held page }
     requires stands { Stands walk.now (Stage.Held page) (N.world nodes.old) }
     requires pair { IsPair walk.now.target }
     requires mark { N.allows nodes.old walk.now.op mark }
     requires shown { N.shows nodes.old page }
-    ensures stepped { Stepped walk.now result.0 (N.world nodes.old) (N.world nodes.new) }
-    ensures rule { IsTurned result.1 walk.now (N.world nodes.old) (N.world nodes.new) (N.left nodes.old) (N.left nodes.new) (Stage.Held page) result.0 }
-    ensures keys { PutsKeys walk.now result.1 (N.world nodes.old) (N.world nodes.new) }
-    ensures goes { GoesOn result.1 result.0 }
-    ensures bears { BearsPut walk.now mark result.1 (N.world nodes.old) (N.marked nodes.old) (N.marked nodes.new) }
-    ensures busy { OnBusy result.1 (IsInTheWay (N.flushes nodes.old) (N.world nodes.old) walk.now.op) }
-    ensures cause { CausedTurn result.1 (N.faults nodes.old) (N.faults nodes.new) (N.halted nodes.old) (N.halted nodes.new) }
+    ensures stepped { Stepped walk.now stage.new (N.world nodes.old) (N.world nodes.new) }
+    ensures rule { IsTurned result walk.now (N.world nodes.old) (N.world nodes.new) (N.left nodes.old) (N.left nodes.new) (Stage.Held page) stage.new }
+    ensures keys { PutsKeys walk.now result (N.world nodes.old) (N.world nodes.new) }
+    ensures goes { GoesOn result stage.new }
+    ensures bears { BearsPut walk.now mark result (N.world nodes.old) (N.marked nodes.old) (N.marked nodes.new) }
+    ensures busy { OnBusy result (IsInTheWay (N.flushes nodes.old) (N.world nodes.old) walk.now.op) }
+    ensures cause { CausedTurn result (N.faults nodes.old) (N.faults nodes.new) (N.halted nodes.old) (N.halted nodes.new) }
+    ensures arrives { Arrives result walk.now (N.world nodes.old) (Stage.Held page) stage.new reach.old reach.new }
 {
     nodes.node(page).copy_into(node);
-    match node.next_place(&walk.target) {
-        Place::Right(right) => {
-            nodes.free(walk.op, page);
-            return (Stage::Down { page: right }, Turn::More);
+    if node.is_past(&walk.target) {
+        let right = node.right();
+        if right == page {
+            return Turn::Refused(nodes.bad(page));
         }
-        Place::Down(_) => return (Stage::Held { page }, Turn::Refused(nodes.bad(page))),
-        Place::Here(_) => return put_here(walk, mark, nodes, page, node),
-        Place::End => return put_here(walk, mark, nodes, page, node),
+        node.come_right(alloc, reach);
+        nodes.free(walk.op, page);
+        *stage = Stage::Down { page: right };
+        return Turn::More;
     }
+    put_here(walk, mark, page, stage, nodes, node)
 }
 
 /// Puts the pair into the leaf, unless it is there. A full leaf is to be split first.
 fn put_here<N: Nodes>(
     walk: &Walk,
     mark: Mark,
-    nodes: &mut N,
     page: u64,
+    stage: &mut Stage,
+    nodes: &mut N,
     node: &mut Node,
-) -> (Stage, Turn<()>)
+) -> Turn<()>
+    requires at { stage.old ≡ Stage.Held page }
     requires stands { Stands walk.now (Stage.Held page) (N.world nodes.old) }
     requires pair { IsPair walk.now.target }
     requires mark { N.allows nodes.old walk.now.op mark }
     requires seen { page_at (N.world nodes.old) page ≡ Holds node.old }
     requires within { is_past node.old.high walk.now.target ≡ false }
-    ensures stepped { Stepped walk.now result.0 (N.world nodes.old) (N.world nodes.new) }
-    ensures rule { IsTurned result.1 walk.now (N.world nodes.old) (N.world nodes.new) (N.left nodes.old) (N.left nodes.new) (Stage.Held page) result.0 }
-    ensures keys { PutsKeys walk.now result.1 (N.world nodes.old) (N.world nodes.new) }
-    ensures goes { GoesOn result.1 result.0 }
-    ensures bears { BearsPut walk.now mark result.1 (N.world nodes.old) (N.marked nodes.old) (N.marked nodes.new) }
-    ensures busy { OnBusy result.1 (IsInTheWay (N.flushes nodes.old) (N.world nodes.old) walk.now.op) }
-    ensures cause { CausedTurn result.1 (N.faults nodes.old) (N.faults nodes.new) (N.halted nodes.old) (N.halted nodes.new) }
+    ensures stepped { Stepped walk.now stage.new (N.world nodes.old) (N.world nodes.new) }
+    ensures rule { IsTurned result walk.now (N.world nodes.old) (N.world nodes.new) (N.left nodes.old) (N.left nodes.new) (Stage.Held page) stage.new }
+    ensures keys { PutsKeys walk.now result (N.world nodes.old) (N.world nodes.new) }
+    ensures goes { GoesOn result stage.new }
+    ensures bears { BearsPut walk.now mark result (N.world nodes.old) (N.marked nodes.old) (N.marked nodes.new) }
+    ensures busy { OnBusy result (IsInTheWay (N.flushes nodes.old) (N.world nodes.old) walk.now.op) }
+    ensures cause { CausedTurn result (N.faults nodes.old) (N.faults nodes.new) (N.halted nodes.old) (N.halted nodes.new) }
 {
     let Target::At(pair) = &walk.target else {
         unreachable!();
     };
     if !is_for(node, pair) {
-        return (Stage::Held { page }, Turn::Refused(nodes.bad(page)));
+        return Turn::Refused(nodes.bad(page));
     }
     if node.has(pair) {
         nodes.free(walk.op, page);
-        return (Stage::Ended, Turn::Done(()));
+        *stage = Stage::Ended;
+        return Turn::Done(());
     }
     if !node.fits() {
-        return (Stage::Full { page }, Turn::More);
+        *stage = Stage::Full { page };
+        return Turn::More;
     }
     node.put(pair);
     let _count = node.count();
     let edited = nodes.edit(walk.op, page, node, mark);
     if !is_done(&edited) {
-        return (Stage::Held { page }, edited);
+        return edited;
     }
     nodes.free(walk.op, page);
-    (Stage::Ended, Turn::Done(()))
+    *stage = Stage::Ended;
+    Turn::Done(())
 }

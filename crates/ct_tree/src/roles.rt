@@ -186,7 +186,7 @@ impl Ways {
         to: &Stage,
         on: Reach,
     )
-        ensures at { OnMore turn.now (self.new.at ≡ way_after walk.now trail.page trail.above (page_of to.now) to.now self.old.at self.old.over on) }
+        ensures at { OnMore turn.now (self.new.at ≡ way_after walk.now trail.page trail.above trail.found (page_of to.now) to.now self.old.at self.old.over on) }
         ensures over { OnMore turn.now ((above : ℕ) → over_of to.now ≡ Some above → self.new.over ≡ over_after trail.page (page_of to.now) above self.old.at self.old.over) }
         ensures stays { is_more turn.now ≡ false → self.new ≡ self.old }
     {
@@ -197,18 +197,18 @@ impl Ways {
 
     /// Comes to the page of a stage along a trail.
     fn come(&mut self, walk: &Walk, trail: Trail, to: &Stage, on: Reach)
-        ensures at { self.new.at ≡ way_after walk.now trail.page trail.above (page_of to.now) to.now self.old.at self.old.over on }
+        ensures at { self.new.at ≡ way_after walk.now trail.page trail.above trail.found (page_of to.now) to.now self.old.at self.old.over on }
         ensures over { (above : ℕ) → over_of to.now ≡ Some above → self.new.over ≡ over_after trail.page (page_of to.now) above self.old.at self.old.over }
     {
+        let Some(next) = page_of(to) else {
+            return;
+        };
         let Some(page) = trail.page else {
             self.at = Reach::root(walk.at, &walk.target);
             return;
         };
-        let Some(next) = page_of(to) else {
-            return;
-        };
         if page == next {
-            if finds_leaf(to) {
+            if finds_leaf(to) && !trail.found {
                 self.at.leaf = Some(true);
             }
             return;
@@ -240,20 +240,23 @@ impl Ways {
     }
 }
 
-/// Where an operation comes from: its page, and the page above that it remembers.
+/// Where an operation comes from: its page, the page above that it remembers, and whether it has
+/// found its leaf.
 #[derive(Clone, Copy)]
 pub(crate) struct Trail {
     page: Option<u64>,
     above: Option<u64>,
+    found: bool,
 }
 
 impl Trail {
     pub(crate) fn of(stage: &Stage) -> Trail
-        ensures { result ≡ record { page = page_of stage.now; above = over_of stage.now } }
+        ensures { result ≡ record { page = page_of stage.now; above = over_of stage.now; found = finds_leaf stage.now } }
     {
         Trail {
             page: page_of(stage),
             above: over_of(stage),
+            found: finds_leaf(stage),
         }
     }
 }

@@ -1,26 +1,25 @@
 //! Searching an index: shared latches from the leaf of the target to the leaf of the answer, here to
 //! the right.
 
-ghost use Rattle.std.specs.Prelude.{◌≡◌, ◌≤◌, ◌<◌, IsTrue, IfSome, false, true, length};
+ghost use Rattle.std.specs.Prelude.{◌≡◌, ◌≤◌, ◌<◌, IsTrue, IfSome, None, false, true, length};
 ghost use Rattle.ct_node.specs.Turns.{OnBusy, CausedTurn, OnMore};
 ghost use Rattle.ct_tree_laws.specs.Stands.{Stands, Stepped, KeepsKeys, HasNone};
 ghost use Rattle.ct_tree.specs.Answers.{is_done, TellsFound, IsFound, IsInTheWay, IsSearching, IsSeeking, IsSearchingBy, found_right, found_by};
 ghost use Rattle.ct_tree.specs.Rules.{IsTurned, GivesWay};
 ghost use Rattle.ct_tree.specs.Moves.{looked_at, spot_of, moves_after};
 ghost use Rattle.ct_tree.specs.Counted.{IsCounted};
-ghost use Rattle.ct_tree.specs.Roles.{HasRole, HasCome, Comes, StaysOutside, TellsWay};
+ghost use Rattle.ct_tree.specs.Roles.{HasRole, HasCome, Comes, StaysOutside, Follows, Arrives};
 ghost use Rattle.ct_tree.specs.Ends.{left_of, IsLess};
 
-use crate::descent::{Step, answer_with, descend, is_done, start, stays, visit};
+use crate::descent::{answer_with, descend, is_done, start, visit};
 use crate::left::left_step;
 use crate::moves::{circle_at, looked_at, moves_after, spot_of};
-use crate::roles::{Trail, Ways, way_of};
+use crate::roles::Ways;
 use crate::seek::Seek;
 use ct_disk::Turn;
-use ct_node::{Nodes, Pair, Place, Reach, Root, Target};
+use ct_node::{Nodes, Pair, Reach, Root, Target};
 use ct_tree_laws::{Stage, Walk};
 use std::alloc::Global;
-use std::mem::replace;
 
 /// Searches an index in turns. It keeps its latches until `end`.
 #[derive(Drop)]
@@ -85,25 +84,19 @@ impl Search {
         if let Some(page) = circle_at(from, self.moves, pages) {
             return Turn::Refused(nodes.bad(page));
         }
-        let trail = Trail::of(&self.stage);
-        let stage = replace(&mut self.stage, Stage::Ended);
-        let Step {
-            stage,
-            turn,
-            told,
-            on,
-        } = seek_step(
+        let mut found = None;
+        let turn = seek_step(
             self.alloc,
             &self.walk,
             self.seek,
-            stage,
-            &self.ways.at,
+            &mut self.stage,
+            &mut self.ways,
             nodes,
+            &mut found,
         );
-        self.stage = give_way(&self.walk, self.seek, stage, &turn, nodes);
+        give_way(&self.walk, self.seek, &mut self.stage, &turn, nodes);
         self.moves = moves_after(from, spot_of(&self.stage), self.moves, pages);
-        self.ways.follow(&self.walk, trail, &turn, &self.stage, on);
-        answer_with(turn, told)
+        answer_with(turn, found)
     }
 
     /// Ends the search: none of its latches stands afterwards.
@@ -132,36 +125,31 @@ fn seek_step<N: Nodes>(
     alloc: Global,
     walk: &Walk,
     seek: Seek,
-    stage: Stage,
-    reach: &Reach,
+    stage: &mut Stage,
+    ways: &mut Ways,
     nodes: &mut N,
-) -> Step<Option<Pair>>
-    requires stands { Stands walk.now stage (N.world nodes.old) }
-    requires open { IsSearchingBy seek stage }
-    requires role { IsTrue (N.world nodes.old).founded → HasRole (looked_at stage) reach.now (N.world nodes.old) }
-    ensures stepped { Stepped walk.now result.stage (N.world nodes.old) (N.world nodes.new) }
-    ensures rule { IsTurned result.turn walk.now (N.world nodes.old) (N.world nodes.new) (N.left nodes.old) (N.left nodes.new) stage result.stage }
-    ensures role { StaysOutside result.turn stage result.stage reach.now (N.world nodes.old) }
-    ensures way { TellsWay result.turn walk.now (N.world nodes.old) stage result.stage result.on }
+    found: &mut Option<Pair>,
+) -> Turn<()>
+    requires unfound { found.old ≡ None }
+    requires stands { Stands walk.now stage.old (N.world nodes.old) }
+    requires open { IsSearchingBy seek stage.old }
+    requires role { IsTrue (N.world nodes.old).founded → HasRole (looked_at stage.old) ways.old.at (N.world nodes.old) }
+    ensures stepped { Stepped walk.now stage.new (N.world nodes.old) (N.world nodes.new) }
+    ensures rule { IsTurned result walk.now (N.world nodes.old) (N.world nodes.new) (N.left nodes.old) (N.left nodes.new) stage.old stage.new }
+    ensures role { StaysOutside result stage.old stage.new ways.old.at (N.world nodes.old) }
     ensures keys { KeepsKeys (N.world nodes.old) (N.world nodes.new) }
-    ensures found { TellsFound walk.now (found_by seek) result.turn result.told (N.world nodes.old) }
-    ensures searching { IsSearchingBy seek result.stage }
+    ensures found { TellsFound walk.now (found_by seek) result found.new (N.world nodes.old) }
+    ensures searching { IsSearchingBy seek stage.new }
     ensures bears { N.marked nodes.new ≡ N.marked nodes.old }
-    ensures busy { OnBusy result.turn (IsInTheWay (N.flushes nodes.old) (N.world nodes.old) walk.now.op) }
-    ensures cause { CausedTurn result.turn (N.faults nodes.old) (N.faults nodes.new) (N.halted nodes.old) (N.halted nodes.new) }
+    ensures busy { OnBusy result (IsInTheWay (N.flushes nodes.old) (N.world nodes.old) walk.now.op) }
+    ensures cause { CausedTurn result (N.faults nodes.old) (N.faults nodes.new) (N.halted nodes.old) (N.halted nodes.new) }
+    ensures follows { Follows result walk.now (N.world nodes.old) stage.old stage.new ways.old ways.new }
 {
-    let seen = visit(walk.op, looked_at(&stage), reach, nodes);
+    let seen = visit(walk.op, looked_at(stage), &ways.at, nodes);
     if !is_done(&seen) {
-        return stays(walk, stage, seen, None);
+        return seen;
     }
-    let on = way_of(alloc, walk, &stage, nodes);
-    let (stage, turn, told) = seek_seen(alloc, walk, seek, stage, nodes);
-    Step {
-        stage,
-        turn,
-        told,
-        on,
-    }
+    seek_seen(alloc, walk, seek, stage, ways, nodes, found)
 }
 
 /// The turn of a search at a stage, once the page that it looks at is at hand.
@@ -169,50 +157,49 @@ fn seek_seen<N: Nodes>(
     alloc: Global,
     walk: &Walk,
     seek: Seek,
-    stage: Stage,
+    stage: &mut Stage,
+    ways: &mut Ways,
     nodes: &mut N,
-) -> (Stage, Turn<()>, Option<Pair>)
-    requires stands { Stands walk.now stage (N.world nodes.old) }
-    requires open { IsSearchingBy seek stage }
-    requires shown { IfSome (looked_at stage) (N.shows nodes.old) }
-    ensures stepped { Stepped walk.now result.0 (N.world nodes.old) (N.world nodes.new) }
-    ensures rule { IsTurned result.1 walk.now (N.world nodes.old) (N.world nodes.new) (N.left nodes.old) (N.left nodes.new) stage result.0 }
+    found: &mut Option<Pair>,
+) -> Turn<()>
+    requires unfound { found.old ≡ None }
+    requires stands { Stands walk.now stage.old (N.world nodes.old) }
+    requires open { IsSearchingBy seek stage.old }
+    requires shown { IfSome (looked_at stage.old) (N.shows nodes.old) }
+    ensures stepped { Stepped walk.now stage.new (N.world nodes.old) (N.world nodes.new) }
+    ensures rule { IsTurned result walk.now (N.world nodes.old) (N.world nodes.new) (N.left nodes.old) (N.left nodes.new) stage.old stage.new }
     ensures keys { KeepsKeys (N.world nodes.old) (N.world nodes.new) }
-    ensures found { TellsFound walk.now (found_by seek) result.1 result.2 (N.world nodes.old) }
-    ensures searching { IsSearchingBy seek result.0 }
+    ensures found { TellsFound walk.now (found_by seek) result found.new (N.world nodes.old) }
+    ensures searching { IsSearchingBy seek stage.new }
     ensures bears { N.marked nodes.new ≡ N.marked nodes.old }
-    ensures busy { OnBusy result.1 (IsInTheWay (N.flushes nodes.old) (N.world nodes.old) walk.now.op) }
-    ensures cause { CausedTurn result.1 (N.faults nodes.old) (N.faults nodes.new) (N.halted nodes.old) (N.halted nodes.new) }
+    ensures busy { OnBusy result (IsInTheWay (N.flushes nodes.old) (N.world nodes.old) walk.now.op) }
+    ensures cause { CausedTurn result (N.faults nodes.old) (N.faults nodes.new) (N.halted nodes.old) (N.halted nodes.new) }
+    ensures follows { Follows result walk.now (N.world nodes.old) stage.old stage.new ways.old ways.new }
 {
     match seek {
-        Seek::AtOrAbove => return search_step(alloc, walk, false, stage, nodes),
-        Seek::Above => return search_step(alloc, walk, true, stage, nodes),
-        Seek::AtOrBelow => return left_step(alloc, walk, true, stage, nodes),
-        Seek::Below => return left_step(alloc, walk, false, stage, nodes),
+        Seek::AtOrAbove => search_step(alloc, walk, false, stage, ways, nodes, found),
+        Seek::Above => search_step(alloc, walk, true, stage, ways, nodes, found),
+        Seek::AtOrBelow => left_step(alloc, walk, true, stage, ways, nodes, found),
+        Seek::Below => left_step(alloc, walk, false, stage, ways, nodes, found),
     }
 }
 
 /// Where another operation is in the way, gives all latches back, and the search begins again.
-fn give_way<N: Nodes>(walk: &Walk, seek: Seek, to: Stage, turn: &Turn<()>, nodes: &mut N) -> Stage
-    requires stands { Stands walk.now to (N.world nodes.old) }
-    requires open { IsSearchingBy seek to }
-    ensures stepped { Stepped walk.now result (N.world nodes.old) (N.world nodes.new) }
+fn give_way<N: Nodes>(walk: &Walk, seek: Seek, stage: &mut Stage, turn: &Turn<()>, nodes: &mut N)
+    requires stands { Stands walk.now stage.old (N.world nodes.old) }
+    requires open { IsSearchingBy seek stage.old }
+    ensures stepped { Stepped walk.now stage.new (N.world nodes.old) (N.world nodes.new) }
     ensures keys { KeepsKeys (N.world nodes.old) (N.world nodes.new) }
-    ensures searching { IsSearchingBy seek result }
+    ensures searching { IsSearchingBy seek stage.new }
     ensures given_back { OnBusy turn.now (λ _. HasNone walk.now.op (N.world nodes.new)) }
     ensures bears { N.marked nodes.new ≡ N.marked nodes.old }
-    ensures gives_way { GivesWay turn.now (N.world nodes.old) (N.world nodes.new) (N.left nodes.old) (N.left nodes.new) to result }
+    ensures gives_way { GivesWay turn.now (N.world nodes.old) (N.world nodes.new) (N.left nodes.old) (N.left nodes.new) stage.old stage.new }
     ensures faults { N.faults nodes.new ≡ N.faults nodes.old }
     ensures halted { N.halted nodes.new ≡ N.halted nodes.old }
 {
-    match turn {
-        Turn::Busy { op: _ } => {
-            nodes.free_all(walk.op);
-            return Stage::Start;
-        }
-        Turn::Done(()) => return to,
-        Turn::More => return to,
-        Turn::Refused(_) => return to,
+    if let Turn::Busy { op: _ } = turn {
+        nodes.free_all(walk.op);
+        *stage = Stage::Start;
     }
 }
 
@@ -221,47 +208,58 @@ fn search_step<N: Nodes>(
     alloc: Global,
     walk: &Walk,
     above: bool,
-    stage: Stage,
+    stage: &mut Stage,
+    ways: &mut Ways,
     nodes: &mut N,
-) -> (Stage, Turn<()>, Option<Pair>)
-    requires stands { Stands walk.now stage (N.world nodes.old) }
-    requires open { IsSearching above stage }
-    requires shown { IfSome (looked_at stage) (N.shows nodes.old) }
-    ensures stepped { Stepped walk.now result.0 (N.world nodes.old) (N.world nodes.new) }
-    ensures rule { IsTurned result.1 walk.now (N.world nodes.old) (N.world nodes.new) (N.left nodes.old) (N.left nodes.new) stage result.0 }
+    found: &mut Option<Pair>,
+) -> Turn<()>
+    requires unfound { found.old ≡ None }
+    requires stands { Stands walk.now stage.old (N.world nodes.old) }
+    requires open { IsSearching above stage.old }
+    requires shown { IfSome (looked_at stage.old) (N.shows nodes.old) }
+    ensures stepped { Stepped walk.now stage.new (N.world nodes.old) (N.world nodes.new) }
+    ensures rule { IsTurned result walk.now (N.world nodes.old) (N.world nodes.new) (N.left nodes.old) (N.left nodes.new) stage.old stage.new }
     ensures keys { KeepsKeys (N.world nodes.old) (N.world nodes.new) }
-    ensures found { TellsFound walk.now (found_right above) result.1 result.2 (N.world nodes.old) }
-    ensures searching { IsSearching above result.0 }
+    ensures found { TellsFound walk.now (found_right above) result found.new (N.world nodes.old) }
+    ensures searching { IsSearching above stage.new }
     ensures bears { N.marked nodes.new ≡ N.marked nodes.old }
-    ensures busy { OnBusy result.1 (IsInTheWay (N.flushes nodes.old) (N.world nodes.old) walk.now.op) }
-    ensures cause { CausedTurn result.1 (N.faults nodes.old) (N.faults nodes.new) (N.halted nodes.old) (N.halted nodes.new) }
+    ensures busy { OnBusy result (IsInTheWay (N.flushes nodes.old) (N.world nodes.old) walk.now.op) }
+    ensures cause { CausedTurn result (N.faults nodes.old) (N.faults nodes.new) (N.halted nodes.old) (N.halted nodes.new) }
+    ensures follows { Follows result walk.now (N.world nodes.old) stage.old stage.new ways.old ways.new }
 {
-    if let Stage::Shared { page, above: over } = stage {
-        return look_shared(alloc, walk, over, nodes, page);
+    if let Stage::Shared { page, above: _ } = *stage {
+        return look_shared(alloc, walk, above, page, stage, &mut ways.at, nodes, found);
     }
-    let step = find_shared(walk, above, stage, nodes);
-    (step.0, step.1, None)
+    find_shared(alloc, walk, above, stage, &mut ways.at, nodes)
 }
 
 /// One turn on the way to a leaf that is to be shared.
-fn find_shared<N: Nodes>(walk: &Walk, above: bool, stage: Stage, nodes: &mut N) -> (Stage, Turn<()>)
-    requires stands { Stands walk.now stage (N.world nodes.old) }
-    requires open { IsSeeking above stage }
-    requires shown { IfSome (looked_at stage) (N.shows nodes.old) }
-    ensures stepped { Stepped walk.now result.0 (N.world nodes.old) (N.world nodes.new) }
-    ensures rule { IsTurned result.1 walk.now (N.world nodes.old) (N.world nodes.new) (N.left nodes.old) (N.left nodes.new) stage result.0 }
+fn find_shared<N: Nodes>(
+    alloc: Global,
+    walk: &Walk,
+    above: bool,
+    stage: &mut Stage,
+    reach: &mut Reach,
+    nodes: &mut N,
+) -> Turn<()>
+    requires stands { Stands walk.now stage.old (N.world nodes.old) }
+    requires open { IsSeeking above stage.old }
+    requires shown { IfSome (looked_at stage.old) (N.shows nodes.old) }
+    ensures stepped { Stepped walk.now stage.new (N.world nodes.old) (N.world nodes.new) }
+    ensures rule { IsTurned result walk.now (N.world nodes.old) (N.world nodes.new) (N.left nodes.old) (N.left nodes.new) stage.old stage.new }
     ensures keys { KeepsKeys (N.world nodes.old) (N.world nodes.new) }
-    ensures going { is_done result.1 ≡ false }
-    ensures searching { IsSearching above result.0 }
+    ensures going { is_done result ≡ false }
+    ensures searching { IsSearching above stage.new }
     ensures bears { N.marked nodes.new ≡ N.marked nodes.old }
-    ensures busy { OnBusy result.1 (IsInTheWay (N.flushes nodes.old) (N.world nodes.old) walk.now.op) }
-    ensures cause { CausedTurn result.1 (N.faults nodes.old) (N.faults nodes.new) (N.halted nodes.old) (N.halted nodes.new) }
+    ensures busy { OnBusy result (IsInTheWay (N.flushes nodes.old) (N.world nodes.old) walk.now.op) }
+    ensures cause { CausedTurn result (N.faults nodes.old) (N.faults nodes.new) (N.halted nodes.old) (N.halted nodes.new) }
+    ensures arrives { Arrives result walk.now (N.world nodes.old) stage.old stage.new reach.old reach.new }
 {
-    match stage {
-        Stage::Start => return start(walk, nodes),
-        Stage::Down { page } => return descend(walk, nodes, page),
-        Stage::Leaf { page } => return share_leaf(walk, above, nodes, page),
-        Stage::Share { page, above: over } => return share_next(walk, over, nodes, page),
+    match *stage {
+        Stage::Start => start(walk, stage, reach, nodes),
+        Stage::Down { page } => descend(alloc, walk, page, stage, reach, nodes),
+        Stage::Leaf { page } => share_leaf(walk, above, page, stage, nodes),
+        Stage::Share { page, above: _ } => share_next(walk, above, page, stage, nodes),
         Stage::Held { page: _ } => unreachable!(),
         Stage::Full { page: _ } => unreachable!(),
         Stage::Split { page: _, right: _ } => unreachable!(),
@@ -285,50 +283,54 @@ fn find_shared<N: Nodes>(walk: &Walk, above: bool, stage: Stage, nodes: &mut N) 
 pub(crate) fn share_leaf<N: Nodes>(
     walk: &Walk,
     above: bool,
-    nodes: &mut N,
     page: u64,
-) -> (Stage, Turn<()>)
-    requires { Stands walk.now (Stage.Leaf page) (N.world nodes.old) }
-    ensures stepped { Stepped walk.now result.0 (N.world nodes.old) (N.world nodes.new) }
-    ensures rule { IsTurned result.1 walk.now (N.world nodes.old) (N.world nodes.new) (N.left nodes.old) (N.left nodes.new) (Stage.Leaf page) result.0 }
+    stage: &mut Stage,
+    nodes: &mut N,
+) -> Turn<()>
+    requires at { stage.old ≡ Stage.Leaf page }
+    requires stands { Stands walk.now (Stage.Leaf page) (N.world nodes.old) }
+    ensures stepped { Stepped walk.now stage.new (N.world nodes.old) (N.world nodes.new) }
+    ensures rule { IsTurned result walk.now (N.world nodes.old) (N.world nodes.new) (N.left nodes.old) (N.left nodes.new) (Stage.Leaf page) stage.new }
     ensures keys { KeepsKeys (N.world nodes.old) (N.world nodes.new) }
-    ensures going { is_done result.1 ≡ false }
-    ensures searching { IsSearching above result.0 }
+    ensures going { is_done result ≡ false }
+    ensures searching { IsSearching above stage.new }
     ensures bears { N.marked nodes.new ≡ N.marked nodes.old }
-    ensures busy { OnBusy result.1 (IsInTheWay (N.flushes nodes.old) (N.world nodes.old) walk.now.op) }
-    ensures cause { CausedTurn result.1 (N.faults nodes.old) (N.faults nodes.new) (N.halted nodes.old) (N.halted nodes.new) }
+    ensures busy { OnBusy result (IsInTheWay (N.flushes nodes.old) (N.world nodes.old) walk.now.op) }
+    ensures cause { CausedTurn result (N.faults nodes.old) (N.faults nodes.new) (N.halted nodes.old) (N.halted nodes.new) }
 {
-    match nodes.share(walk.op, page) {
-        Turn::Done(()) => return (Stage::Shared { page, above }, Turn::More),
-        Turn::More => return (Stage::Leaf { page }, Turn::More),
-        Turn::Busy { op } => return (Stage::Leaf { page }, Turn::Busy { op }),
-        Turn::Refused(fault) => return (Stage::Leaf { page }, Turn::Refused(fault)),
+    let shared = nodes.share(walk.op, page);
+    if !is_done(&shared) {
+        return shared;
     }
+    *stage = Stage::Shared { page, above };
+    Turn::More
 }
 
 /// Shares the next leaf too.
 pub(crate) fn share_next<N: Nodes>(
     walk: &Walk,
     above: bool,
-    nodes: &mut N,
     page: u64,
-) -> (Stage, Turn<()>)
-    requires { Stands walk.now (Stage.Share page above) (N.world nodes.old) }
-    ensures stepped { Stepped walk.now result.0 (N.world nodes.old) (N.world nodes.new) }
-    ensures rule { IsTurned result.1 walk.now (N.world nodes.old) (N.world nodes.new) (N.left nodes.old) (N.left nodes.new) (Stage.Share page above) result.0 }
+    stage: &mut Stage,
+    nodes: &mut N,
+) -> Turn<()>
+    requires at { stage.old ≡ Stage.Share page above }
+    requires stands { Stands walk.now (Stage.Share page above) (N.world nodes.old) }
+    ensures stepped { Stepped walk.now stage.new (N.world nodes.old) (N.world nodes.new) }
+    ensures rule { IsTurned result walk.now (N.world nodes.old) (N.world nodes.new) (N.left nodes.old) (N.left nodes.new) (Stage.Share page above) stage.new }
     ensures keys { KeepsKeys (N.world nodes.old) (N.world nodes.new) }
-    ensures going { is_done result.1 ≡ false }
-    ensures searching { IsSearching above result.0 }
+    ensures going { is_done result ≡ false }
+    ensures searching { IsSearching above stage.new }
     ensures bears { N.marked nodes.new ≡ N.marked nodes.old }
-    ensures busy { OnBusy result.1 (IsInTheWay (N.flushes nodes.old) (N.world nodes.old) walk.now.op) }
-    ensures cause { CausedTurn result.1 (N.faults nodes.old) (N.faults nodes.new) (N.halted nodes.old) (N.halted nodes.new) }
+    ensures busy { OnBusy result (IsInTheWay (N.flushes nodes.old) (N.world nodes.old) walk.now.op) }
+    ensures cause { CausedTurn result (N.faults nodes.old) (N.faults nodes.new) (N.halted nodes.old) (N.halted nodes.new) }
 {
-    match nodes.share(walk.op, page) {
-        Turn::Done(()) => return (Stage::Shared { page, above }, Turn::More),
-        Turn::More => return (Stage::Share { page, above }, Turn::More),
-        Turn::Busy { op } => return (Stage::Share { page, above }, Turn::Busy { op }),
-        Turn::Refused(fault) => return (Stage::Share { page, above }, Turn::Refused(fault)),
+    let shared = nodes.share(walk.op, page);
+    if !is_done(&shared) {
+        return shared;
     }
+    *stage = Stage::Shared { page, above };
+    Turn::More
 }
 
 /// Looks at the leaf that it has: answers a pair of it, or goes on to the next leaf and keeps this
@@ -337,40 +339,50 @@ pub(crate) fn look_shared<N: Nodes>(
     alloc: Global,
     walk: &Walk,
     above: bool,
-    nodes: &mut N,
     page: u64,
-) -> (Stage, Turn<()>, Option<Pair>)
+    stage: &mut Stage,
+    reach: &mut Reach,
+    nodes: &mut N,
+    found: &mut Option<Pair>,
+) -> Turn<()>
+    requires at { stage.old ≡ Stage.Shared page above }
+    requires unfound { found.old ≡ None }
     requires stands { Stands walk.now (Stage.Shared page above) (N.world nodes.old) }
     requires shown { N.shows nodes.old page }
-    ensures stepped { Stepped walk.now result.0 (N.world nodes.old) (N.world nodes.new) }
-    ensures rule { IsTurned result.1 walk.now (N.world nodes.old) (N.world nodes.new) (N.left nodes.old) (N.left nodes.new) (Stage.Shared page above) result.0 }
+    ensures stepped { Stepped walk.now stage.new (N.world nodes.old) (N.world nodes.new) }
+    ensures rule { IsTurned result walk.now (N.world nodes.old) (N.world nodes.new) (N.left nodes.old) (N.left nodes.new) (Stage.Shared page above) stage.new }
     ensures keys { KeepsKeys (N.world nodes.old) (N.world nodes.new) }
-    ensures found { TellsFound walk.now (found_right above) result.1 result.2 (N.world nodes.old) }
-    ensures searching { IsSearching above result.0 }
+    ensures found { TellsFound walk.now (found_right above) result found.new (N.world nodes.old) }
+    ensures searching { IsSearching above stage.new }
     ensures bears { N.marked nodes.new ≡ N.marked nodes.old }
-    ensures busy { OnBusy result.1 (IsInTheWay (N.flushes nodes.old) (N.world nodes.old) walk.now.op) }
-    ensures cause { CausedTurn result.1 (N.faults nodes.old) (N.faults nodes.new) (N.halted nodes.old) (N.halted nodes.new) }
+    ensures busy { OnBusy result (IsInTheWay (N.flushes nodes.old) (N.world nodes.old) walk.now.op) }
+    ensures cause { CausedTurn result (N.faults nodes.old) (N.faults nodes.new) (N.halted nodes.old) (N.halted nodes.new) }
+    ensures arrives { Arrives result walk.now (N.world nodes.old) (Stage.Shared page above) stage.new reach.old reach.new }
 {
     let node = nodes.node(page);
-    if let Place::Right(right) = node.next_place(&walk.target) {
+    if node.is_past(&walk.target) {
+        let right = node.right();
+        if right == page {
+            return Turn::Refused(nodes.bad(page));
+        }
+        node.come_right(alloc, reach);
         nodes.free_all(walk.op);
-        return (Stage::Down { page: right }, Turn::More, None);
+        *stage = Stage::Down { page: right };
+        return Turn::More;
     }
     let place = node.count_ahead(&walk.target, above);
     if place < node.count() {
-        let pair = node.pair(alloc, place);
-        return (Stage::Shared { page, above }, Turn::Done(()), Some(pair));
+        *found = Some(node.pair(alloc, place));
+        return Turn::Done(());
     }
-    match node.next_place(&Target::Last) {
-        Place::Right(right) => return (Stage::Share { page: right, above }, Turn::More, None),
-        Place::Down(_) => {
-            return (
-                Stage::Shared { page, above },
-                Turn::Refused(nodes.bad(page)),
-                None,
-            );
-        }
-        Place::Here(_) => return (Stage::Shared { page, above }, Turn::Done(()), None),
-        Place::End => return (Stage::Shared { page, above }, Turn::Done(()), None),
+    if !node.is_past(&Target::Last) {
+        return Turn::Done(());
     }
+    let right = node.right();
+    if right == page {
+        return Turn::Refused(nodes.bad(page));
+    }
+    node.come_right(alloc, reach);
+    *stage = Stage::Share { page: right, above };
+    Turn::More
 }

@@ -16,54 +16,65 @@ use ct_tree_laws::{Rise, Separator, Stage, Walk};
 use std::alloc::Global;
 
 /// Allocates the page of the right half.
-pub(crate) fn allocate<N: Nodes>(walk: &Walk, nodes: &mut N, page: u64) -> (Stage, Turn<()>)
-    requires { Stands walk.now (Stage.Full page) (N.world nodes.old) }
-    ensures stepped { Stepped walk.now result.0 (N.world nodes.old) (N.world nodes.new) }
-    ensures rule { IsTurned result.1 walk.now (N.world nodes.old) (N.world nodes.new) (N.left nodes.old) (N.left nodes.new) (Stage.Full page) result.0 }
+pub(crate) fn allocate<N: Nodes>(
+    walk: &Walk,
+    page: u64,
+    stage: &mut Stage,
+    nodes: &mut N,
+) -> Turn<()>
+    requires at { stage.old ≡ Stage.Full page }
+    requires stands { Stands walk.now (Stage.Full page) (N.world nodes.old) }
+    ensures stepped { Stepped walk.now stage.new (N.world nodes.old) (N.world nodes.new) }
+    ensures rule { IsTurned result walk.now (N.world nodes.old) (N.world nodes.new) (N.left nodes.old) (N.left nodes.new) (Stage.Full page) stage.new }
     ensures keys { KeepsKeys (N.world nodes.old) (N.world nodes.new) }
-    ensures going { is_done result.1 ≡ false }
-    ensures putting { IsPutting result.0 }
+    ensures going { is_done result ≡ false }
+    ensures putting { IsPutting stage.new }
     ensures bears { N.marked nodes.new ≡ N.marked nodes.old }
-    ensures busy { OnBusy result.1 (IsInTheWay (N.flushes nodes.old) (N.world nodes.old) walk.now.op) }
-    ensures cause { CausedTurn result.1 (N.faults nodes.old) (N.faults nodes.new) (N.halted nodes.old) (N.halted nodes.new) }
+    ensures busy { OnBusy result (IsInTheWay (N.flushes nodes.old) (N.world nodes.old) walk.now.op) }
+    ensures cause { CausedTurn result (N.faults nodes.old) (N.faults nodes.new) (N.halted nodes.old) (N.halted nodes.new) }
 {
-    match nodes.fresh(walk.op) {
-        Turn::Done(right) => return (Stage::Split { page, right }, Turn::More),
-        Turn::More => return (Stage::Full { page }, Turn::More),
-        Turn::Busy { op } => return (Stage::Full { page }, Turn::Busy { op }),
-        Turn::Refused(fault) => return (Stage::Full { page }, Turn::Refused(fault)),
-    }
+    let right = match nodes.fresh(walk.op) {
+        Turn::Done(right) => right,
+        Turn::More => return Turn::More,
+        Turn::Busy { op } => return Turn::Busy { op },
+        Turn::Refused(fault) => return Turn::Refused(fault),
+    };
+    *stage = Stage::Split { page, right };
+    Turn::More
 }
 
 /// Writes the right half.
 pub(crate) fn write_right<N: Nodes>(
     walk: &Walk,
-    nodes: &mut N,
     page: u64,
     right: u64,
+    stage: &mut Stage,
+    nodes: &mut N,
     upper: &mut Node,
-) -> (Stage, Turn<()>)
+) -> Turn<()>
+    requires at { stage.old ≡ Stage.Split page right }
     requires stands { Stands walk.now (Stage.Split page right) (N.world nodes.old) }
     requires shown { N.shows nodes.old page }
-    ensures stepped { Stepped walk.now result.0 (N.world nodes.old) (N.world nodes.new) }
-    ensures rule { IsTurned result.1 walk.now (N.world nodes.old) (N.world nodes.new) (N.left nodes.old) (N.left nodes.new) (Stage.Split page right) result.0 }
+    ensures stepped { Stepped walk.now stage.new (N.world nodes.old) (N.world nodes.new) }
+    ensures rule { IsTurned result walk.now (N.world nodes.old) (N.world nodes.new) (N.left nodes.old) (N.left nodes.new) (Stage.Split page right) stage.new }
     ensures keys { KeepsKeys (N.world nodes.old) (N.world nodes.new) }
-    ensures going { is_done result.1 ≡ false }
-    ensures putting { IsPutting result.0 }
+    ensures going { is_done result ≡ false }
+    ensures putting { IsPutting stage.new }
     ensures bears { (N.marked nodes.new ≡ N.marked nodes.old) ⊎ (N.marked nodes.new ≡ no_mark) }
-    ensures busy { OnBusy result.1 (IsInTheWay (N.flushes nodes.old) (N.world nodes.old) walk.now.op) }
-    ensures cause { CausedTurn result.1 (N.faults nodes.old) (N.faults nodes.new) (N.halted nodes.old) (N.halted nodes.new) }
+    ensures busy { OnBusy result (IsInTheWay (N.flushes nodes.old) (N.world nodes.old) walk.now.op) }
+    ensures cause { CausedTurn result (N.faults nodes.old) (N.faults nodes.new) (N.halted nodes.old) (N.halted nodes.new) }
 {
     let node = nodes.node(page);
     if node.count() < 2 {
-        return (Stage::Split { page, right }, Turn::Refused(nodes.bad(page)));
+        return Turn::Refused(nodes.bad(page));
     }
     node.upper_half(upper);
     let edited = nodes.edit(walk.op, right, upper, Mark::NONE);
     if !is_done(&edited) {
-        return (Stage::Split { page, right }, edited);
+        return edited;
     }
-    (Stage::Cut { page, right }, Turn::More)
+    *stage = Stage::Cut { page, right };
+    Turn::More
 }
 
 /// Whether a node has no room for one more entry, and so has two or more.
@@ -81,34 +92,36 @@ pub(crate) fn is_full(node: &Node) -> bool
 pub(crate) fn cut_left<N: Nodes>(
     alloc: Global,
     walk: &Walk,
-    nodes: &mut N,
     page: u64,
     right: u64,
+    stage: &mut Stage,
+    nodes: &mut N,
     node: &mut Node,
-) -> (Stage, Turn<()>)
+) -> Turn<()>
+    requires at { stage.old ≡ Stage.Cut page right }
     requires stands { Stands walk.now (Stage.Cut page right) (N.world nodes.old) }
     requires shown { N.shows nodes.old page }
-    ensures stepped { Stepped walk.now result.0 (N.world nodes.old) (N.world nodes.new) }
-    ensures rule { IsTurned result.1 walk.now (N.world nodes.old) (N.world nodes.new) (N.left nodes.old) (N.left nodes.new) (Stage.Cut page right) result.0 }
+    ensures stepped { Stepped walk.now stage.new (N.world nodes.old) (N.world nodes.new) }
+    ensures rule { IsTurned result walk.now (N.world nodes.old) (N.world nodes.new) (N.left nodes.old) (N.left nodes.new) (Stage.Cut page right) stage.new }
     ensures keys { KeepsKeys (N.world nodes.old) (N.world nodes.new) }
-    ensures going { is_done result.1 ≡ false }
-    ensures putting { IsPutting result.0 }
+    ensures going { is_done result ≡ false }
+    ensures putting { IsPutting stage.new }
     ensures bears { (N.marked nodes.new ≡ N.marked nodes.old) ⊎ (N.marked nodes.new ≡ no_mark) }
-    ensures busy { OnBusy result.1 (IsInTheWay (N.flushes nodes.old) (N.world nodes.old) walk.now.op) }
-    ensures cause { CausedTurn result.1 (N.faults nodes.old) (N.faults nodes.new) (N.halted nodes.old) (N.halted nodes.new) }
+    ensures busy { OnBusy result (IsInTheWay (N.flushes nodes.old) (N.world nodes.old) walk.now.op) }
+    ensures cause { CausedTurn result (N.faults nodes.old) (N.faults nodes.new) (N.halted nodes.old) (N.halted nodes.new) }
 {
     nodes.node(page).copy_into(node);
     if !node.is_leaf() {
-        return (Stage::Cut { page, right }, Turn::Refused(nodes.bad(page)));
+        return Turn::Refused(nodes.bad(page));
     }
     if !is_full(node) {
-        return (Stage::Cut { page, right }, Turn::Refused(nodes.bad(page)));
+        return Turn::Refused(nodes.bad(page));
     }
     let low = node.pair(alloc, node.count() / 2);
     node.cut(right);
     let edited = nodes.edit(walk.op, page, node, Mark::NONE);
     if !is_done(&edited) {
-        return (Stage::Cut { page, right }, edited);
+        return edited;
     }
     nodes.free(walk.op, page);
     let separator = Separator {
@@ -116,6 +129,9 @@ pub(crate) fn cut_left<N: Nodes>(
         child: right,
         left: page,
     };
-    let rise = Rise::Root;
-    (Stage::Post { separator, rise }, Turn::More)
+    *stage = Stage::Post {
+        separator,
+        rise: Rise::Root,
+    };
+    Turn::More
 }

@@ -9,17 +9,16 @@ ghost use Rattle.ct_tree.specs.Answers.{IsPair, TakesKeys, TellsTaken, TakenKeys
 ghost use Rattle.ct_tree.specs.Rules.{IsTurned};
 ghost use Rattle.ct_tree.specs.Moves.{looked_at, spot_of, moves_after};
 ghost use Rattle.ct_tree.specs.Counted.{IsCounted};
-ghost use Rattle.ct_tree.specs.Roles.{HasRole, HasCome, Comes, StaysOutside, TellsWay};
+ghost use Rattle.ct_tree.specs.Roles.{HasRole, HasCome, Comes, StaysOutside, Follows, Arrives};
 ghost use Rattle.ct_tree.specs.Ends.{left_of, IsLess};
 
-use crate::descent::{Step, answer_with, find_leaf, is_done, is_for, stays, visit};
+use crate::descent::{answer_with, find_leaf, is_done, is_for, visit};
 use crate::moves::{circle_at, looked_at, moves_after, spot_of};
-use crate::roles::{Trail, Ways, way_of};
+use crate::roles::Ways;
 use ct_disk::Turn;
-use ct_node::{Mark, Node, Nodes, Place, Reach, Root, Target};
+use ct_node::{Mark, Node, Nodes, Reach, Root, Target};
 use ct_tree_laws::{Stage, Walk};
 use std::alloc::Global;
-use std::mem::replace;
 
 /// Takes one pair out of an index, in turns.
 #[derive(Drop)]
@@ -88,26 +87,19 @@ impl Take {
         if let Some(page) = circle_at(from, self.moves, pages) {
             return Turn::Refused(nodes.bad(page));
         }
-        let trail = Trail::of(&self.stage);
-        let stage = replace(&mut self.stage, Stage::Ended);
-        let Step {
-            stage,
-            turn,
-            told,
-            on,
-        } = take_step(
+        let mut taken = false;
+        let turn = take_step(
             self.alloc,
             &self.walk,
             self.mark,
-            stage,
-            &self.ways.at,
+            &mut self.stage,
+            &mut self.ways,
             nodes,
             &mut self.node,
+            &mut taken,
         );
-        self.stage = stage;
         self.moves = moves_after(from, spot_of(&self.stage), self.moves, pages);
-        self.ways.follow(&self.walk, trail, &turn, &self.stage, on);
-        answer_with(turn, told)
+        answer_with(turn, taken)
     }
 }
 
@@ -116,141 +108,166 @@ fn take_step<N: Nodes>(
     alloc: Global,
     walk: &Walk,
     mark: Mark,
-    stage: Stage,
-    reach: &Reach,
+    stage: &mut Stage,
+    ways: &mut Ways,
     nodes: &mut N,
     node: &mut Node,
-) -> Step<bool>
-    requires stands { Stands walk.now stage (N.world nodes.old) }
+    taken: &mut bool,
+) -> Turn<()>
+    requires untaken { taken.old ≡ false }
+    requires stands { Stands walk.now stage.old (N.world nodes.old) }
     requires pair { IsPair walk.now.target }
-    requires open { IsTaking stage }
-    requires role { IsTrue (N.world nodes.old).founded → HasRole (looked_at stage) reach.now (N.world nodes.old) }
+    requires open { IsTaking stage.old }
+    requires role { IsTrue (N.world nodes.old).founded → HasRole (looked_at stage.old) ways.old.at (N.world nodes.old) }
     requires mark { N.allows nodes.old walk.now.op mark }
-    ensures stepped { Stepped walk.now result.stage (N.world nodes.old) (N.world nodes.new) }
-    ensures rule { IsTurned result.turn walk.now (N.world nodes.old) (N.world nodes.new) (N.left nodes.old) (N.left nodes.new) stage result.stage }
-    ensures role { StaysOutside result.turn stage result.stage reach.now (N.world nodes.old) }
-    ensures way { TellsWay result.turn walk.now (N.world nodes.old) stage result.stage result.on }
-    ensures keys { TakesKeys walk.now result.turn (N.world nodes.old) (N.world nodes.new) }
-    ensures found { TellsTaken walk.now result.turn result.told (N.world nodes.old) }
-    ensures goes { TakeGoesOn result.turn result.stage }
-    ensures bears { BearsTake mark result.turn result.told (N.marked nodes.old) (N.marked nodes.new) }
-    ensures busy { OnBusy result.turn (IsInTheWay (N.flushes nodes.old) (N.world nodes.old) walk.now.op) }
-    ensures cause { CausedTurn result.turn (N.faults nodes.old) (N.faults nodes.new) (N.halted nodes.old) (N.halted nodes.new) }
+    ensures stepped { Stepped walk.now stage.new (N.world nodes.old) (N.world nodes.new) }
+    ensures rule { IsTurned result walk.now (N.world nodes.old) (N.world nodes.new) (N.left nodes.old) (N.left nodes.new) stage.old stage.new }
+    ensures role { StaysOutside result stage.old stage.new ways.old.at (N.world nodes.old) }
+    ensures keys { TakesKeys walk.now result (N.world nodes.old) (N.world nodes.new) }
+    ensures found { TellsTaken walk.now result taken.new (N.world nodes.old) }
+    ensures goes { TakeGoesOn result stage.new }
+    ensures bears { BearsTake mark result taken.new (N.marked nodes.old) (N.marked nodes.new) }
+    ensures busy { OnBusy result (IsInTheWay (N.flushes nodes.old) (N.world nodes.old) walk.now.op) }
+    ensures cause { CausedTurn result (N.faults nodes.old) (N.faults nodes.new) (N.halted nodes.old) (N.halted nodes.new) }
+    ensures follows { Follows result walk.now (N.world nodes.old) stage.old stage.new ways.old ways.new }
 {
-    let seen = visit(walk.op, looked_at(&stage), reach, nodes);
+    let seen = visit(walk.op, looked_at(stage), &ways.at, nodes);
     if !is_done(&seen) {
-        return stays(walk, stage, seen, false);
+        return seen;
     }
-    let on = way_of(alloc, walk, &stage, nodes);
-    let (stage, turn, told) = take_seen(walk, mark, stage, nodes, node);
-    Step {
-        stage,
-        turn,
-        told,
-        on,
-    }
+    take_seen(alloc, walk, mark, stage, ways, nodes, node, taken)
 }
 
 /// The turn of a take at a stage, once the page that it looks at is at hand.
 fn take_seen<N: Nodes>(
+    alloc: Global,
     walk: &Walk,
     mark: Mark,
-    stage: Stage,
+    stage: &mut Stage,
+    ways: &mut Ways,
     nodes: &mut N,
     node: &mut Node,
-) -> (Stage, Turn<()>, bool)
-    requires stands { Stands walk.now stage (N.world nodes.old) }
+    taken: &mut bool,
+) -> Turn<()>
+    requires untaken { taken.old ≡ false }
+    requires stands { Stands walk.now stage.old (N.world nodes.old) }
     requires pair { IsPair walk.now.target }
-    requires open { IsTaking stage }
+    requires open { IsTaking stage.old }
     requires mark { N.allows nodes.old walk.now.op mark }
-    requires shown { IfSome (looked_at stage) (N.shows nodes.old) }
-    ensures stepped { Stepped walk.now result.0 (N.world nodes.old) (N.world nodes.new) }
-    ensures rule { IsTurned result.1 walk.now (N.world nodes.old) (N.world nodes.new) (N.left nodes.old) (N.left nodes.new) stage result.0 }
-    ensures keys { TakesKeys walk.now result.1 (N.world nodes.old) (N.world nodes.new) }
-    ensures found { TellsTaken walk.now result.1 result.2 (N.world nodes.old) }
-    ensures goes { TakeGoesOn result.1 result.0 }
-    ensures bears { BearsTake mark result.1 result.2 (N.marked nodes.old) (N.marked nodes.new) }
-    ensures busy { OnBusy result.1 (IsInTheWay (N.flushes nodes.old) (N.world nodes.old) walk.now.op) }
-    ensures cause { CausedTurn result.1 (N.faults nodes.old) (N.faults nodes.new) (N.halted nodes.old) (N.halted nodes.new) }
+    requires shown { IfSome (looked_at stage.old) (N.shows nodes.old) }
+    ensures stepped { Stepped walk.now stage.new (N.world nodes.old) (N.world nodes.new) }
+    ensures rule { IsTurned result walk.now (N.world nodes.old) (N.world nodes.new) (N.left nodes.old) (N.left nodes.new) stage.old stage.new }
+    ensures keys { TakesKeys walk.now result (N.world nodes.old) (N.world nodes.new) }
+    ensures found { TellsTaken walk.now result taken.new (N.world nodes.old) }
+    ensures goes { TakeGoesOn result stage.new }
+    ensures bears { BearsTake mark result taken.new (N.marked nodes.old) (N.marked nodes.new) }
+    ensures busy { OnBusy result (IsInTheWay (N.flushes nodes.old) (N.world nodes.old) walk.now.op) }
+    ensures cause { CausedTurn result (N.faults nodes.old) (N.faults nodes.new) (N.halted nodes.old) (N.halted nodes.new) }
+    ensures follows { Follows result walk.now (N.world nodes.old) stage.old stage.new ways.old ways.new }
 {
-    if let Stage::Held { page } = stage {
-        return take_held(walk, mark, nodes, page, node);
+    if let Stage::Held { page } = *stage {
+        return take_held(
+            alloc,
+            walk,
+            mark,
+            page,
+            stage,
+            &mut ways.at,
+            nodes,
+            node,
+            taken,
+        );
     }
-    let step = find_leaf(walk, stage, nodes);
-    (step.0, step.1, false)
+    find_leaf(alloc, walk, stage, &mut ways.at, nodes)
 }
 
 /// Looks at the leaf again, now that it is the operation's own: goes on to the right, or takes the
-/// pair. The last of the answer tells whether it was there.
+/// pair. Whether it was there is told in `taken`.
 pub(crate) fn take_held<N: Nodes>(
+    alloc: Global,
     walk: &Walk,
     mark: Mark,
-    nodes: &mut N,
     page: u64,
+    stage: &mut Stage,
+    reach: &mut Reach,
+    nodes: &mut N,
     node: &mut Node,
-) -> (Stage, Turn<()>, bool)
+    taken: &mut bool,
+) -> Turn<()>
+    requires at { stage.old ≡ Stage.Held page }
+    requires untaken { taken.old ≡ false }
     requires stands { Stands walk.now (Stage.Held page) (N.world nodes.old) }
     requires pair { IsPair walk.now.target }
     requires mark { N.allows nodes.old walk.now.op mark }
     requires shown { N.shows nodes.old page }
-    ensures stepped { Stepped walk.now result.0 (N.world nodes.old) (N.world nodes.new) }
-    ensures rule { IsTurned result.1 walk.now (N.world nodes.old) (N.world nodes.new) (N.left nodes.old) (N.left nodes.new) (Stage.Held page) result.0 }
-    ensures keys { TakesKeys walk.now result.1 (N.world nodes.old) (N.world nodes.new) }
-    ensures found { TellsTaken walk.now result.1 result.2 (N.world nodes.old) }
-    ensures goes { TakeGoesOn result.1 result.0 }
-    ensures bears { BearsTake mark result.1 result.2 (N.marked nodes.old) (N.marked nodes.new) }
-    ensures busy { OnBusy result.1 (IsInTheWay (N.flushes nodes.old) (N.world nodes.old) walk.now.op) }
-    ensures cause { CausedTurn result.1 (N.faults nodes.old) (N.faults nodes.new) (N.halted nodes.old) (N.halted nodes.new) }
+    ensures stepped { Stepped walk.now stage.new (N.world nodes.old) (N.world nodes.new) }
+    ensures rule { IsTurned result walk.now (N.world nodes.old) (N.world nodes.new) (N.left nodes.old) (N.left nodes.new) (Stage.Held page) stage.new }
+    ensures keys { TakesKeys walk.now result (N.world nodes.old) (N.world nodes.new) }
+    ensures found { TellsTaken walk.now result taken.new (N.world nodes.old) }
+    ensures goes { TakeGoesOn result stage.new }
+    ensures bears { BearsTake mark result taken.new (N.marked nodes.old) (N.marked nodes.new) }
+    ensures busy { OnBusy result (IsInTheWay (N.flushes nodes.old) (N.world nodes.old) walk.now.op) }
+    ensures cause { CausedTurn result (N.faults nodes.old) (N.faults nodes.new) (N.halted nodes.old) (N.halted nodes.new) }
+    ensures arrives { Arrives result walk.now (N.world nodes.old) (Stage.Held page) stage.new reach.old reach.new }
 {
     nodes.node(page).copy_into(node);
-    match node.next_place(&walk.target) {
-        Place::Right(right) => {
-            nodes.free(walk.op, page);
-            return (Stage::Down { page: right }, Turn::More, false);
+    if node.is_past(&walk.target) {
+        let right = node.right();
+        if right == page {
+            return Turn::Refused(nodes.bad(page));
         }
-        Place::Down(_) => return (Stage::Held { page }, Turn::Refused(nodes.bad(page)), false),
-        Place::Here(_) => return take_here(walk, mark, nodes, page, node),
-        Place::End => return take_here(walk, mark, nodes, page, node),
+        node.come_right(alloc, reach);
+        nodes.free(walk.op, page);
+        *stage = Stage::Down { page: right };
+        return Turn::More;
     }
+    take_here(walk, mark, page, stage, nodes, node, taken)
 }
 
 /// Takes the pair out of the leaf, where it is there.
 fn take_here<N: Nodes>(
     walk: &Walk,
     mark: Mark,
-    nodes: &mut N,
     page: u64,
+    stage: &mut Stage,
+    nodes: &mut N,
     node: &mut Node,
-) -> (Stage, Turn<()>, bool)
+    taken: &mut bool,
+) -> Turn<()>
+    requires at { stage.old ≡ Stage.Held page }
+    requires untaken { taken.old ≡ false }
     requires stands { Stands walk.now (Stage.Held page) (N.world nodes.old) }
     requires pair { IsPair walk.now.target }
     requires mark { N.allows nodes.old walk.now.op mark }
     requires seen { page_at (N.world nodes.old) page ≡ Holds node.old }
     requires within { is_past node.old.high walk.now.target ≡ false }
-    ensures stepped { Stepped walk.now result.0 (N.world nodes.old) (N.world nodes.new) }
-    ensures rule { IsTurned result.1 walk.now (N.world nodes.old) (N.world nodes.new) (N.left nodes.old) (N.left nodes.new) (Stage.Held page) result.0 }
-    ensures keys { TakesKeys walk.now result.1 (N.world nodes.old) (N.world nodes.new) }
-    ensures found { TellsTaken walk.now result.1 result.2 (N.world nodes.old) }
-    ensures goes { TakeGoesOn result.1 result.0 }
-    ensures bears { BearsTake mark result.1 result.2 (N.marked nodes.old) (N.marked nodes.new) }
-    ensures busy { OnBusy result.1 (IsInTheWay (N.flushes nodes.old) (N.world nodes.old) walk.now.op) }
-    ensures cause { CausedTurn result.1 (N.faults nodes.old) (N.faults nodes.new) (N.halted nodes.old) (N.halted nodes.new) }
+    ensures stepped { Stepped walk.now stage.new (N.world nodes.old) (N.world nodes.new) }
+    ensures rule { IsTurned result walk.now (N.world nodes.old) (N.world nodes.new) (N.left nodes.old) (N.left nodes.new) (Stage.Held page) stage.new }
+    ensures keys { TakesKeys walk.now result (N.world nodes.old) (N.world nodes.new) }
+    ensures found { TellsTaken walk.now result taken.new (N.world nodes.old) }
+    ensures goes { TakeGoesOn result stage.new }
+    ensures bears { BearsTake mark result taken.new (N.marked nodes.old) (N.marked nodes.new) }
+    ensures busy { OnBusy result (IsInTheWay (N.flushes nodes.old) (N.world nodes.old) walk.now.op) }
+    ensures cause { CausedTurn result (N.faults nodes.old) (N.faults nodes.new) (N.halted nodes.old) (N.halted nodes.new) }
 {
     let Target::At(pair) = &walk.target else {
         unreachable!();
     };
     if !is_for(node, pair) {
-        return (Stage::Held { page }, Turn::Refused(nodes.bad(page)), false);
+        return Turn::Refused(nodes.bad(page));
     }
     if !node.take(pair) {
         nodes.free(walk.op, page);
-        return (Stage::Ended, Turn::Done(()), false);
+        *stage = Stage::Ended;
+        return Turn::Done(());
     }
     let _count = node.count();
     let edited = nodes.edit(walk.op, page, node, mark);
     if !is_done(&edited) {
-        return (Stage::Held { page }, edited, false);
+        return edited;
     }
     nodes.free(walk.op, page);
-    (Stage::Ended, Turn::Done(()), true)
+    *stage = Stage::Ended;
+    *taken = true;
+    Turn::Done(())
 }

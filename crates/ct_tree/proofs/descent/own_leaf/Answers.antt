@@ -1,27 +1,19 @@
-use Rattle.std.proofs.Common.{true, refl, inl, inr, ap}
+use Rattle.std.proofs.Common.{true}
 use Rattle.std.specs.Prelude.{find}
 use Rattle.ct_latch.specs.Latches.{bars, with_hold}
-use Rattle.ct_node.specs.Worlds.{with_holds, World}
+use Rattle.ct_node.specs.Worlds.{with_holds}
 use Rattle.ct_tree_laws.proofs.PutTurns.{own_stepped, own_keys}
-use Rattle.ct_tree.proofs.Done.{after_done, free_when_done, after_other}
-use Rattle.ct_tree.proofs.OneTurn.{waits_first}
-use Rattle.ct_tree_laws.specs.declared.walk.Stage.TheVariants as stage
+use Rattle.ct_tree.proofs.Done.{after_done, free_when_done}
 use Rattle.ct_tree.proofs.descent.own_leaf.Goals as goal
 
 pub returns-clause-stepped : goal.returns-clause-stepped
 returns-clause-stepped g c =
     let w = g.N.Nodes.world c.args.nodes.now in
-    own_stepped c.args.walk.now c.args.page w (g.N.Nodes.world c.own-owned.new.self) c.requires (free_when_done c.own-owned.result (find (bars c.args.page c.args.walk.now.op true) w.holds) (cc) c.own-owned.ensures.busy)
+    own_stepped c.args.walk.now c.args.page w (g.N.Nodes.world c.own-owned.new.self) c.requires.stands (free_when_done c.own-owned.result (find (bars c.args.page c.args.walk.now.op true) w.holds) (cc) c.own-owned.ensures.busy)
     (after_done c.own-owned.result (λ _. with_holds (with_hold (record { node = c.args.page; op = c.args.walk.now.op; own = true }) w.holds) w) w (g.N.Nodes.world c.own-owned.new.self) (cc) c.own-owned.ensures.world)
 
 pub returns-clause-keys : goal.returns-clause-keys
 returns-clause-keys g c =
     let w = g.N.Nodes.world c.args.nodes.now in
-    own_keys c.args.walk.now c.args.page w (g.N.Nodes.world c.own-owned.new.self) c.requires (free_when_done c.own-owned.result (find (bars c.args.page c.args.walk.now.op true) w.holds) (cc) c.own-owned.ensures.busy)
+    own_keys c.args.walk.now c.args.page w (g.N.Nodes.world c.own-owned.new.self) c.requires.stands (free_when_done c.own-owned.result (find (bars c.args.page c.args.walk.now.op true) w.holds) (cc) c.own-owned.ensures.busy)
     (after_done c.own-owned.result (λ _. with_holds (with_hold (record { node = c.args.page; op = c.args.walk.now.op; own = true }) w.holds) w) w (g.N.Nodes.world c.own-owned.new.self) (cc) c.own-owned.ensures.world)
-
-pub returns-then-not-is_done-clause-rule : goal.returns-then-not-is_done-clause-rule
-returns-then-not-is_done-clause-rule g c = waits_first c.own-owned.result c.args.walk.now (g.N.Nodes.world c.args.nodes.now) (g.N.Nodes.world c.own-owned.new.self) (g.N.Nodes.left c.args.nodes.now) (g.N.Nodes.left c.own-owned.new.self) (stage.Leaf c.args.page) (cc) (after_other c.own-owned.result (λ _. with_holds (with_hold (record { node = c.args.page; op = c.args.walk.now.op; own = true }) (g.N.Nodes.world c.args.nodes.now).holds) (g.N.Nodes.world c.args.nodes.now)) (g.N.Nodes.world c.args.nodes.now) (g.N.Nodes.world c.own-owned.new.self) (cc) c.own-owned.ensures.world) c.own-owned.ensures.left
-
-pub returns-clause-rule : goal.returns-clause-rule
-returns-clause-rule g c = inr ((ap (λ (v : World). v.pages) (after_done c.own-owned.result (λ _. with_holds (with_hold (record { node = c.args.page; op = c.args.walk.now.op; own = true }) (g.N.Nodes.world c.args.nodes.now).holds) (g.N.Nodes.world c.args.nodes.now)) (g.N.Nodes.world c.args.nodes.now) (g.N.Nodes.world c.own-owned.new.self) (cc) c.own-owned.ensures.world)), inl refl)

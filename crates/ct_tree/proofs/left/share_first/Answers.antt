@@ -1,18 +1,21 @@
-use Rattle.std.proofs.Common.{refl, inl, inr, ap}
+use Rattle.std.proofs.Common.{false}
+use Rattle.std.specs.Prelude.{find}
+use Rattle.ct_latch.specs.Latches.{bars, with_share}
+use Rattle.ct_node.specs.Worlds.{with_holds}
 use Rattle.ct_tree_laws.specs.declared.walk.Stage.TheVariants as stage
 use Rattle.ct_tree_laws.proofs.SearchTurns.{share_keys}
 use Rattle.ct_tree_laws.proofs.LeftTurns.{left_share_first}
-use Rattle.ct_node.specs.Worlds.{World}
+use Rattle.ct_tree.proofs.Done.{after_done, free_when_done}
 use Rattle.ct_tree.proofs.left.share_first.Goals as goal
 
-pub returns-in-Done-clause-stepped : goal.returns-in-Done-clause-stepped
-returns-in-Done-clause-stepped g c = left_share_first c.args.walk.now c.args.page (g.N.Nodes.world c.args.nodes.now) (g.N.Nodes.world c.share.new.self) c.requires c.in-Done.ensures.busy c.in-Done.ensures.world
+pub returns-clause-stepped : goal.returns-clause-stepped
+returns-clause-stepped g c =
+    let w = g.N.Nodes.world c.args.nodes.now in
+    left_share_first c.args.walk.now c.args.page w (g.N.Nodes.world c.share-shared.new.self) c.requires.stands (free_when_done c.share-shared.result (find (bars c.args.page c.args.walk.now.op false) w.holds) (cc) c.share-shared.ensures.busy)
+    (after_done c.share-shared.result (λ _. with_holds (with_share c.args.page c.args.walk.now.op w.holds) w) w (g.N.Nodes.world c.share-shared.new.self) (cc) c.share-shared.ensures.world)
 
-pub returns-in-Done-clause-keys : goal.returns-in-Done-clause-keys
-returns-in-Done-clause-keys g c = share_keys c.args.walk.now (stage.Leaf c.args.page) c.args.page (g.N.Nodes.world c.args.nodes.now) (g.N.Nodes.world c.share.new.self) c.requires c.in-Done.ensures.busy c.in-Done.ensures.world
-
-pub returns-in-Done-clause-rule : goal.returns-in-Done-clause-rule
-returns-in-Done-clause-rule g c = inr ((ap (λ (v : World). v.pages) c.in-Done.ensures.world), inr (inr refl))
-
-pub returns-in-More-clause-rule : goal.returns-in-More-clause-rule
-returns-in-More-clause-rule g c = inl (record { same = refl; world = c.in-More.ensures.world; less = c.in-More.ensures.left })
+pub returns-clause-keys : goal.returns-clause-keys
+returns-clause-keys g c =
+    let w = g.N.Nodes.world c.args.nodes.now in
+    share_keys c.args.walk.now (stage.Leaf c.args.page) c.args.page w (g.N.Nodes.world c.share-shared.new.self) c.requires.stands (free_when_done c.share-shared.result (find (bars c.args.page c.args.walk.now.op false) w.holds) (cc) c.share-shared.ensures.busy)
+    (after_done c.share-shared.result (λ _. with_holds (with_share c.args.page c.args.walk.now.op w.holds) w) w (g.N.Nodes.world c.share-shared.new.self) (cc) c.share-shared.ensures.world)

@@ -5,10 +5,10 @@ use Rattle.ct_tree.proofs.Done.{tidy_by}
 use Rattle.ct_tree.proofs.search.give_way.Goals as goal
 
 pub returns-in-Busy-clause-stepped : goal.returns-in-Busy-clause-stepped
-returns-in-Busy-clause-stepped g c = begin_again c.args.walk.now c.args.to (g.N.Nodes.world c.args.nodes.now) (g.N.Nodes.world c.args.nodes.now) (g.N.Nodes.world c.free_all.new.self) c.requires.stands (tidy_by c.args.walk.now c.args.seek c.args.to (g.N.Nodes.world c.args.nodes.now) c.requires.open) refl c.free_all.ensures.world
+returns-in-Busy-clause-stepped g c = begin_again c.args.walk.now c.args.stage.now (g.N.Nodes.world c.args.nodes.now) (g.N.Nodes.world c.args.nodes.now) (g.N.Nodes.world c.free_all.new.self) c.requires.stands (tidy_by c.args.walk.now c.args.seek c.args.stage.now (g.N.Nodes.world c.args.nodes.now) c.requires.open) refl c.free_all.ensures.world
 
 pub returns-in-Busy-clause-keys : goal.returns-in-Busy-clause-keys
-returns-in-Busy-clause-keys g c = again_keys c.args.walk.now c.args.to (g.N.Nodes.world c.args.nodes.now) (g.N.Nodes.world c.args.nodes.now) (g.N.Nodes.world c.free_all.new.self) c.requires.stands refl c.free_all.ensures.world
+returns-in-Busy-clause-keys g c = again_keys c.args.walk.now c.args.stage.now (g.N.Nodes.world c.args.nodes.now) (g.N.Nodes.world c.args.nodes.now) (g.N.Nodes.world c.free_all.new.self) c.requires.stands refl c.free_all.ensures.world
 
 pub returns-in-Busy-clause-given_back : goal.returns-in-Busy-clause-given_back
 returns-in-Busy-clause-given_back g c =

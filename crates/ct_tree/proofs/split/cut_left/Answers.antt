@@ -1,19 +1,9 @@
-use Rattle.std.proofs.Common.{◌≡◌, ℕ, ◌/◌, ◌≤◌, length, refl, ap, inr, sym, ◌∙◌, false}
+use Rattle.std.proofs.Common.{◌≡◌, ℕ, ◌/◌, ◌≤◌, length, refl, ap, sym, ◌∙◌}
 use Rattle.ct_node.specs.Worlds.{Holds, page_at, edited, Cuts}
 use Rattle.ct_tree_laws.proofs.PostingZeros.{middle_low}
 use Rattle.ct_tree_laws.proofs.SplitTurns.{cuts_left, cut_is_tidy, cut_stepped, cut_keys}
-use Rattle.ct_tree.proofs.Done.{after_done, after_other}
-use Rattle.ct_node.specs.Halves.{lower_half}
-use Rattle.ct_tree.proofs.OneTurn.{waits_first, written_free}
-use Rattle.ct_tree_laws.specs.declared.walk.Stage.TheVariants as stage
-use Rattle.ct_tree.specs.Rules.{is_full}
-use Rattle.ct_tree.proofs.Counting.{cut_is_full}
-use Rattle.std.proofs.lemmas.Bool.{false≢true}
-use Rattle.ct_tree_laws.proofs.Turns.{stays}
+use Rattle.ct_tree.proofs.Done.{after_done}
 use Rattle.ct_tree.proofs.split.cut_left.Goals as goal
-
-pub edit-edited-requires-clause-mark : goal.edit-edited-requires-clause-mark
-edit-edited-requires-clause-mark g c = g.met.N.Nodes.allows_none c.args.nodes.now c.args.walk.now.op
 
 pub edit-edited-requires-clause-next : goal.edit-edited-requires-clause-next
 edit-edited-requires-clause-next g c =
@@ -53,37 +43,3 @@ returns-clause-keys g c =
     cut_keys c.args.walk.now c.args.page c.args.right node c.cut.new.self w mid (g.N.Nodes.world c.free.new.self) c.requires.stands seen c.cut.ensures.node
     (after_done c.edit-edited.result (λ _. edited c.args.walk.now.op c.args.page c.cut.new.self w) w mid (cc) c.edit-edited.ensures.world)
     c.free.ensures.world
-
-pub returns-then-not-is_done-clause-rule : goal.returns-then-not-is_done-clause-rule
-returns-then-not-is_done-clause-rule g c =
-    let w = g.N.Nodes.world c.args.nodes.now in
-    let now = g.N.Nodes.world c.edit-edited.new.self in
-    waits_first c.edit-edited.result c.args.walk.now w now (g.N.Nodes.left c.args.nodes.now) (g.N.Nodes.left c.edit-edited.new.self) (stage.Cut c.args.page c.args.right) (cc)
-    (after_other c.edit-edited.result (λ _. edited c.args.walk.now.op c.args.page c.cut.new.self w) w now (cc) c.edit-edited.ensures.world) c.edit-edited.ensures.left
-
-pub returns-clause-rule : goal.returns-clause-rule
-returns-clause-rule g c =
-    let w = g.N.Nodes.world c.args.nodes.now in
-    let node = c.copy_into.new.into in
-    let seen : page_at w c.args.page ≡ Holds node = c.node.ensures ∙ ap Holds (sym c.copy_into.ensures) in
-    inr ((node, seen, c.is_full.ensures.node, cc, cc, written_free c.edit-edited.result c.args.walk.now.op c.args.page (lower_half c.args.right node) c.cut.new.self _ w w (g.N.Nodes.world c.edit-edited.new.self) (g.N.Nodes.world c.free.new.self) (cc) refl c.cut.ensures.node c.edit-edited.ensures.world c.free.ensures.world), (_, refl))
-
-pub bad-requires : goal.bad-requires
-bad-requires g c =
-    let w = g.N.Nodes.world c.args.nodes.now in
-    let node = c.copy_into.new.into in
-    let seen : page_at w c.args.page ≡ Holds node = c.node.ensures ∙ ap Holds (sym c.copy_into.ensures) in
-    cut_is_full c.args.walk.now c.args.page c.args.right node w w c.requires.stands seen refl (λ leaf full. false≢true (sym (cc) ∙ leaf))
-
-pub bad-requires-then-not-is_full : goal.bad-requires-then-not-is_full
-bad-requires-then-not-is_full g c =
-    let w = g.N.Nodes.world c.args.nodes.now in
-    let node = c.copy_into.new.into in
-    let seen : page_at w c.args.page ≡ Holds node = c.node.ensures ∙ ap Holds (sym c.copy_into.ensures) in
-    cut_is_full c.args.walk.now c.args.page c.args.right node w w c.requires.stands seen refl (λ leaf full. let other : is_full node ≡ false = cc in false≢true (sym other ∙ full))
-
-pub returns-then-not-is_done-clause-stepped : goal.returns-then-not-is_done-clause-stepped
-returns-then-not-is_done-clause-stepped g c =
-    let w = g.N.Nodes.world c.args.nodes.now in
-    let now = g.N.Nodes.world c.edit-edited.new.self in
-    stays c.args.walk.now (stage.Cut c.args.page c.args.right) w now (after_other c.edit-edited.result (λ _. edited c.args.walk.now.op c.args.page c.cut.new.self w) w now (cc) c.edit-edited.ensures.world) c.requires.stands

@@ -3,11 +3,9 @@ use Rattle.ct_node.specs.Worlds.{edited, Takes}
 use Rattle.ct_node.specs.Nodes.{pairs_in, has_pair}
 use Rattle.ct_tree_laws.specs.Stands.{ChangesKeys}
 use Rattle.ct_tree.specs.Answers.{take_at, has_at}
-use Rattle.ct_tree_laws.proofs.Turns.{not_founded, stays}
+use Rattle.ct_tree_laws.proofs.Turns.{not_founded}
 use Rattle.ct_tree_laws.proofs.PutTurns.{held_is_for, held_ended, absent_keys, has_keys, takes_pair, edited_tidy, take_stepped, take_keys}
-use Rattle.ct_tree.proofs.Done.{after_done, is_for_from, is_for_parts, after_other}
-use Rattle.ct_tree.proofs.OneTurn.{waits_first}
-use Rattle.ct_tree_laws.specs.declared.walk.Stage.TheVariants as stage
+use Rattle.ct_tree.proofs.Done.{after_done, is_for_from, is_for_parts}
 use Rattle.ct_tree.proofs.take.take_here.Goals as goal
 
 pub bad-requires : goal.bad-requires
@@ -34,7 +32,7 @@ returns-then-not-take-clause-found g c founded keys chain =
     let w = g.N.Nodes.world c.args.nodes.now in
     let facts = is_for_parts c.args.node.now c.in-At.pair (cc) in
     let none : false ≡ has_pair c.in-At.pair (pairs_in c.args.node.now) = cc in
-    subst (λ target. false ≡ has_at target keys) (sym c.in-At.is)
+    c.requires.untaken ∙ subst (λ target. false ≡ has_at target keys) (sym c.in-At.is)
     (none ∙ has_keys c.args.walk.now c.args.page c.args.node.now c.in-At.pair w c.requires.stands c.requires.seen facts.2 founded keys chain)
 
 pub edit-edited-requires-clause-next : goal.edit-edited-requires-clause-next
@@ -78,9 +76,3 @@ returns-clause-found g c founded keys chain =
     let some : true ≡ has_pair c.in-At.pair (pairs_in c.args.node.now) = cc in
     subst (λ target. true ≡ has_at target keys) (sym c.in-At.is)
     (some ∙ has_keys c.args.walk.now c.args.page c.args.node.now c.in-At.pair w c.requires.stands c.requires.seen facts.2 founded keys chain)
-
-pub returns-then-not-is_done-clause-rule : goal.returns-then-not-is_done-clause-rule
-returns-then-not-is_done-clause-rule g c = waits_first c.edit-edited.result c.args.walk.now (g.N.Nodes.world c.args.nodes.now) (g.N.Nodes.world c.edit-edited.new.self) (g.N.Nodes.left c.args.nodes.now) (g.N.Nodes.left c.edit-edited.new.self) (stage.Held c.args.page) (cc) (after_other c.edit-edited.result (λ _. edited c.args.walk.now.op c.args.page c.take.new.self (g.N.Nodes.world c.args.nodes.now)) (g.N.Nodes.world c.args.nodes.now) (g.N.Nodes.world c.edit-edited.new.self) (cc) c.edit-edited.ensures.world) c.edit-edited.ensures.left
-
-pub returns-then-not-is_done-clause-stepped : goal.returns-then-not-is_done-clause-stepped
-returns-then-not-is_done-clause-stepped g c = stays c.args.walk.now (stage.Held c.args.page) (g.N.Nodes.world c.args.nodes.now) (g.N.Nodes.world c.edit-edited.new.self) (after_other c.edit-edited.result (λ _. edited c.args.walk.now.op c.args.page c.take.new.self (g.N.Nodes.world c.args.nodes.now)) (g.N.Nodes.world c.args.nodes.now) (g.N.Nodes.world c.edit-edited.new.self) (cc) c.edit-edited.ensures.world) c.requires.stands
