@@ -287,3 +287,29 @@ fn a_leaf_with_another_low_bound_halts_what_comes_to_it(rt: HostRuntime) -> Resu
     }
     Ok(())
 }
+
+/// Operations on a pair that the first leaf has lost.
+const CALLS_BEHIND: [Call; 6] = [
+    Call::Find(10, Seek::AtOrAbove),
+    Call::Find(10, Seek::Above),
+    Call::Find(10, Seek::AtOrBelow),
+    Call::Find(10, Seek::Below),
+    Call::Put(10),
+    Call::Take(10),
+];
+
+/// The first leaf was cut, and its right link leads to its own page.
+#[test]
+fn a_leaf_that_links_to_itself_halts_what_goes_on_from_it(rt: HostRuntime) -> Result<(), Fail> {
+    let mut tree = TestTree::new(rt.alloc(), SHAPE)?;
+    tree.put_down(1, 28)?;
+    let mut first = node_at(&mut tree, 1)?;
+    assert!(rt; first.count() >= 2);
+    first.cut(1);
+    let halted = Some(Stop::Refused(StepFault::Halted(HaltCause::BadPage(1))));
+    for call in CALLS_BEHIND {
+        let stops = stops_at(rt.alloc(), 1, &first, call)?;
+        assert_eq!(rt; stops, (halted, halted), "{call:?}");
+    }
+    Ok(())
+}
