@@ -1,6 +1,7 @@
 //! An operation of any kind, and what its turn has done.
 
-ghost use Rattle.std.specs.Prelude.{◌≡◌, ◌⊎◌, ℕ, IsTrue, List};
+ghost use Rattle.std.specs.Prelude.{◌≡◌, ◌⊎◌, ℕ, IsTrue, List, true, false};
+ghost use Rattle.ct_node.specs.Turns.{OnBusy, OnMore, CausedTurn};
 ghost use Rattle.ct_node.specs.declared.root.Root.{Root};
 ghost use Rattle.ct_node.specs.declared.root.Mark.{Mark};
 ghost use Rattle.ct_definitions.specs.Pairs.{Pair};
@@ -9,7 +10,8 @@ ghost use Rattle.ct_tree_laws.specs.Stands.{Stands, Stepped};
 ghost use Rattle.ct_tree.specs.Schedules.{walk_of, stage_of, moves_of, ways_of, task_of, is_ended, IsReady, Happens, Puts, Takes, Searches};
 ghost use Rattle.ct_tree.specs.Counted.{IsCounted};
 ghost use Rattle.ct_tree.specs.Roles.{HasCome};
-ghost use Rattle.ct_tree.specs.Answers.{IsPair, IsPutting, IsTaking, IsSearchingBy};
+ghost use Rattle.ct_tree.specs.Answers.{IsPair, IsInTheWay, IsPutting, IsTaking, IsSearchingBy};
+ghost use Rattle.ct_tree.specs.Ends.{left_of, IsLess};
 
 use crate::put::Put;
 use crate::search::Search;
@@ -44,7 +46,8 @@ pub struct Happened {
     pub turn: Turn<Answer>,
 }
 
-/// One turn of an operation. One that has ended does nothing.
+/// One turn of an operation. One that has ended answers `More` and does nothing; of any other a turn
+/// that answers `More` leaves less.
 pub fn turn<N: Nodes>(program: &mut Program, nodes: &mut N) -> Turn<Answer>
     requires stands { Stands (walk_of program.old) (stage_of program.old) (N.world nodes.old) }
     requires counted { IsCounted (stage_of program.old) (moves_of program.old) (N.world nodes.old) }
@@ -57,6 +60,10 @@ pub fn turn<N: Nodes>(program: &mut Program, nodes: &mut N) -> Turn<Answer>
     ensures counted { IsCounted (stage_of program.new) (moves_of program.new) (N.world nodes.new) }
     ensures come { HasCome (stage_of program.new) (ways_of program.new) (N.world nodes.new) }
     ensures stepped { Stepped (walk_of program.old) (stage_of program.new) (N.world nodes.old) (N.world nodes.new) }
+    ensures busy { OnBusy result (IsInTheWay (N.flushes nodes.old) (N.world nodes.old) (walk_of program.old).op) }
+    ensures cause { CausedTurn result (N.faults nodes.old) (N.faults nodes.new) (N.halted nodes.old) (N.halted nodes.new) }
+    ensures left { is_ended (stage_of program.old) ≡ false → OnMore result (IsLess (left_of (stage_of program.new) (moves_of program.new) (N.world nodes.new) (N.left nodes.new)) (left_of (stage_of program.old) (moves_of program.old) (N.world nodes.old) (N.left nodes.old))) }
+    ensures ended { is_ended (stage_of program.old) ≡ true → (result ≡ Turn.More) × (program.new ≡ program.old) × (N.world nodes.new ≡ N.world nodes.old) }
     ensures happens { IsTrue (N.world nodes.old).founded → (at : Root) (keys : List Pair) → Chain (N.world nodes.old) at keys → (now : List Pair) × Happens at (task_of program.old) result keys now × Chain (N.world nodes.new) at now }
 {
     match program {
@@ -106,6 +113,10 @@ fn turn_put<N: Nodes>(put: &mut Put, nodes: &mut N) -> Turn<Answer>
     ensures stepped { Stepped put.old.walk put.new.stage (N.world nodes.old) (N.world nodes.new) }
     ensures counted { IsCounted put.new.stage put.new.moves (N.world nodes.new) }
     ensures come { HasCome put.new.stage put.new.ways (N.world nodes.new) }
+    ensures busy { OnBusy result (IsInTheWay (N.flushes nodes.old) (N.world nodes.old) put.old.walk.op) }
+    ensures cause { CausedTurn result (N.faults nodes.old) (N.faults nodes.new) (N.halted nodes.old) (N.halted nodes.new) }
+    ensures left { is_ended put.old.stage ≡ false → OnMore result (IsLess (left_of put.new.stage put.new.moves (N.world nodes.new) (N.left nodes.new)) (left_of put.old.stage put.old.moves (N.world nodes.old) (N.left nodes.old))) }
+    ensures ended { is_ended put.old.stage ≡ true → (result ≡ Turn.More) × (put.new ≡ put.old) × (N.world nodes.new ≡ N.world nodes.old) }
     ensures happens { IsTrue (N.world nodes.old).founded → (at : Root) (keys : List Pair) → Chain (N.world nodes.old) at keys → (now : List Pair) × Happens at (Puts put.old.walk.at put.old.walk.target) result keys now × Chain (N.world nodes.new) at now }
 {
     if is_ended(&put.stage) {
@@ -131,6 +142,10 @@ fn turn_take<N: Nodes>(take: &mut Take, nodes: &mut N) -> Turn<Answer>
     ensures stepped { Stepped take.old.walk take.new.stage (N.world nodes.old) (N.world nodes.new) }
     ensures counted { IsCounted take.new.stage take.new.moves (N.world nodes.new) }
     ensures come { HasCome take.new.stage take.new.ways (N.world nodes.new) }
+    ensures busy { OnBusy result (IsInTheWay (N.flushes nodes.old) (N.world nodes.old) take.old.walk.op) }
+    ensures cause { CausedTurn result (N.faults nodes.old) (N.faults nodes.new) (N.halted nodes.old) (N.halted nodes.new) }
+    ensures left { is_ended take.old.stage ≡ false → OnMore result (IsLess (left_of take.new.stage take.new.moves (N.world nodes.new) (N.left nodes.new)) (left_of take.old.stage take.old.moves (N.world nodes.old) (N.left nodes.old))) }
+    ensures ended { is_ended take.old.stage ≡ true → (result ≡ Turn.More) × (take.new ≡ take.old) × (N.world nodes.new ≡ N.world nodes.old) }
     ensures happens { IsTrue (N.world nodes.old).founded → (at : Root) (keys : List Pair) → Chain (N.world nodes.old) at keys → (now : List Pair) × Happens at (Takes take.old.walk.at take.old.walk.target) result keys now × Chain (N.world nodes.new) at now }
 {
     if is_ended(&take.stage) {
@@ -155,6 +170,10 @@ fn turn_search<N: Nodes>(search: &mut Search, nodes: &mut N) -> Turn<Answer>
     ensures stepped { Stepped search.old.walk search.new.stage (N.world nodes.old) (N.world nodes.new) }
     ensures counted { IsCounted search.new.stage search.new.moves (N.world nodes.new) }
     ensures come { HasCome search.new.stage search.new.ways (N.world nodes.new) }
+    ensures busy { OnBusy result (IsInTheWay (N.flushes nodes.old) (N.world nodes.old) search.old.walk.op) }
+    ensures cause { CausedTurn result (N.faults nodes.old) (N.faults nodes.new) (N.halted nodes.old) (N.halted nodes.new) }
+    ensures left { is_ended search.old.stage ≡ false → OnMore result (IsLess (left_of search.new.stage search.new.moves (N.world nodes.new) (N.left nodes.new)) (left_of search.old.stage search.old.moves (N.world nodes.old) (N.left nodes.old))) }
+    ensures ended { is_ended search.old.stage ≡ true → (result ≡ Turn.More) × (search.new ≡ search.old) × (N.world nodes.new ≡ N.world nodes.old) }
     ensures happens { IsTrue (N.world nodes.old).founded → (at : Root) (keys : List Pair) → Chain (N.world nodes.old) at keys → (now : List Pair) × Happens at (Searches search.old.walk.at search.old.walk.target search.old.seek) result keys now × Chain (N.world nodes.new) at now }
 {
     if is_ended(&search.stage) {
