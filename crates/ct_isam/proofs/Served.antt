@@ -10,6 +10,7 @@ use Rattle.ct_line.specs.declared.call.Call.TheVariants as calls
 use Rattle.ct_line.specs.declared.call.NewFile.{NewFile}
 use Rattle.ct_line.specs.declared.call.Walk.{Walk}
 use Rattle.ct_line.specs.declared.call.Search.{Search}
+use Rattle.ct_yard.specs.Telling.{Telling}
 use Rattle.ct_yard.specs.declared.yard.Yard.{Yard}
 use Rattle.ct_yard.specs.declared.yard.CommitFault.{CommitFault}
 use Rattle.ct_yard.specs.declared.yard.CommitFault.TheVariants.{Memory as NoRoom, Halted}
@@ -127,19 +128,19 @@ create_refused file machine seats reply (inr reason) =
 
 -- ---- the yards that stand for the machines
 
-module _ {P L : Type 0} (tells : Bool) (count_of : L → ℕ) (content : L → List ℕ) (may_leave : L → List ℕ → Type 0) (left_since : L → L → List ℕ → Type 0) where
+module _ {P L : Type 0} (disk : Telling L) where
   -- a call that leaves the store as it was
   pub still_serves : (acts : Machine → List Seat → Reply → Machine → List Seat → Type 0) (yard : Yard P L) (seats : List Seat) (reply : Reply) (new_seats : List Seat)
       → ((machine : Machine) → state_of machine ≡ yard.state → last_number machine.history ≡ yard.front → acts machine seats reply machine new_seats)
-      → ServesBy tells count_of content may_leave left_since acts yard seats reply yard new_seats
+      → ServesBy disk acts yard seats reply yard new_seats
   still_serves acts yard seats reply new_seats answers founded front machine told stands running =
-      (machine, answers machine (sym (stands.state running)) (sym stands.number), stands, inl refl)
+      (machine, answers machine (sym (stands.state running)) (sym stands.number), stands, record { idle = λ _. refl; moments = inl refl })
 
   -- a call that commits a change
   pub commit_serves : (acts : Machine → List Seat → Reply → Machine → List Seat → Type 0) (change : Change) (outcome : Result ℕ CommitFault) (old new : Yard P L) (seats : List Seat) (reply : Reply) (new_seats : List Seat)
       → ((machine next : Machine) → state_of machine ≡ old.state → Commits machine change outcome next → acts machine seats reply next new_seats)
-      → ((founded : Bool) (front : List ℕ) (machine : Machine) → (IsTrue founded → IsTrue tells) → StandsFor founded count_of content may_leave front machine old → (next : Machine) × Commits machine change outcome next × StandsFor founded count_of content may_leave front next new × KeptThrough founded left_since front machine old.log.device next new.log.device)
-      → ServesBy tells count_of content may_leave left_since acts old seats reply new new_seats
+      → ((founded : Bool) (front : List ℕ) (machine : Machine) → (IsTrue founded → IsTrue disk.tells) → StandsFor founded disk front machine old → (next : Machine) × Commits machine change outcome next × StandsFor founded disk front next new × KeptThrough founded disk front machine old.log.device next new.log.device)
+      → ServesBy disk acts old seats reply new new_seats
   commit_serves acts change outcome old new seats reply new_seats answers commits founded front machine told stands running =
       let done = commits founded front machine told stands in
       (done.0, answers machine done.0 (sym (stands.state running)) done.1, done.2, done.3)
@@ -147,44 +148,44 @@ module _ {P L : Type 0} (tells : Bool) (count_of : L → ℕ) (content : L → L
   -- one that acts as another does
   pub serves_as : (acts others : Machine → List Seat → Reply → Machine → List Seat → Type 0) (old new : Yard P L) (seats : List Seat) (reply : Reply) (new_seats : List Seat)
       → ((machine next : Machine) → state_of machine ≡ old.state → acts machine seats reply next new_seats → others machine seats reply next new_seats)
-      → ServesBy tells count_of content may_leave left_since acts old seats reply new new_seats → ServesBy tells count_of content may_leave left_since others old seats reply new new_seats
+      → ServesBy disk acts old seats reply new new_seats → ServesBy disk others old seats reply new new_seats
   serves_as acts others old new seats reply new_seats more serves founded front machine told stands running =
       let done = serves founded front machine told stands running in
       (done.0, more machine done.0 (sym (stands.state running)) done.1, done.2, done.3)
 
   pub unnamed_serves : (yard : Yard P L) (name image : List ℕ) (seats : List Seat) (reply : Told) → IsUnnamed name yard.state reply
-      → Serves tells count_of content may_leave left_since (calls.Add name image) yard seats (reply_of seats reply) yard seats
+      → Serves disk (calls.Add name image) yard seats (reply_of seats reply) yard seats
   unnamed_serves yard name image seats reply why =
       still_serves (Replies (calls.Add name image)) yard seats (reply_of seats reply) seats
       (λ machine same front. add_unnamed name image machine seats reply (subst (λ (s : State). IsUnnamed name s reply) (sym same) why))
 
   pub refused_serves : (yard : Yard P L) (name image : List ℕ) (f : ℕ) (found : File) (seats : List Seat) (reply : Told)
       → file_named name yard.state ≡ Some f → slice_get yard.state f ≡ Some found → IsRefusedBy (add_refusal image found) reply
-      → Serves tells count_of content may_leave left_since (calls.Add name image) yard seats (reply_of seats reply) yard seats
+      → Serves disk (calls.Add name image) yard seats (reply_of seats reply) yard seats
   refused_serves yard name image f found seats reply named at why =
       still_serves (Replies (calls.Add name image)) yard seats (reply_of seats reply) seats
       (λ machine same front. add_refused name image f found machine seats reply (ap (file_named name) same ∙ named) (ap (λ (s : State). slice_get s f) same ∙ at) why)
 
   pub added_serves : (old new : Yard P L) (name image : List ℕ) (f num : ℕ) (found : File) (seats : List Seat) (reply : Reply) (new_seats : List Seat)
       → file_named name old.state ≡ Some f → slice_get old.state f ≡ Some found → add_refusal image found ≡ None
-      → ServesBy tells count_of content may_leave left_since (AddsAs f num image) old seats reply new new_seats
-      → Serves tells count_of content may_leave left_since (calls.Add name image) old seats reply new new_seats
+      → ServesBy disk (AddsAs f num image) old seats reply new new_seats
+      → Serves disk (calls.Add name image) old seats reply new new_seats
   added_serves old new name image f num found seats reply new_seats named at fine serves =
       serves_as (AddsAs f num image) (Replies (calls.Add name image)) old new seats reply new_seats
       (λ machine next same acts. add_replies name image f num found machine next seats reply new_seats (ap (file_named name) same ∙ named) (ap (λ (s : State). slice_get s f) same ∙ at) fine acts) serves
 
   pub create_refused_serves : (yard : Yard P L) (file : NewFile) (seats : List Seat) (reply : Told) → IsRefusedBy (create_refusal yard.state (described file)) reply
-      → Serves tells count_of content may_leave left_since (calls.Create file) yard seats (reply_of seats reply) yard seats
+      → Serves disk (calls.Create file) yard seats (reply_of seats reply) yard seats
   create_refused_serves yard file seats reply why =
       still_serves (Replies (calls.Create file)) yard seats (reply_of seats reply) seats
       (λ machine same front. create_refused file machine seats reply (subst (λ (s : State). IsRefusedBy (create_refusal s (described file)) reply) (sym same) why))
 
   pub walk_serves : (yard : Yard P L) (walk : Walk) (name index : List ℕ) (seats : List Seat) (reply : Reply) (new_seats : List Seat) → Looks (in_index yard.state name index (walk_at walk seats)) seats reply new_seats
-      → Serves tells count_of content may_leave left_since (calls.Walk walk name index) yard seats reply yard new_seats
+      → Serves disk (calls.Walk walk name index) yard seats reply yard new_seats
   walk_serves yard walk name index seats reply new_seats looks =
       still_serves (Replies (calls.Walk walk name index)) yard seats reply new_seats (λ machine same front. walk_replies walk name index yard.state machine seats reply new_seats same looks)
 
   pub search_serves : (yard : Yard P L) (kind : Search) (name index target : List ℕ) (seats : List Seat) (reply : Reply) (new_seats : List Seat) → Looks (in_index yard.state name index (search_at kind target seats)) seats reply new_seats
-      → Serves tells count_of content may_leave left_since (calls.Search kind name index target) yard seats reply yard new_seats
+      → Serves disk (calls.Search kind name index target) yard seats reply yard new_seats
   search_serves yard kind name index target seats reply new_seats looks =
       still_serves (Replies (calls.Search kind name index target)) yard seats reply new_seats (λ machine same front. search_replies kind name index target yard.state machine seats reply new_seats same looks)

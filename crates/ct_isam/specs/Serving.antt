@@ -2,6 +2,7 @@
 use Rattle.std.specs.Prelude.{Bool, IsTrue, ◌≡◌, ◌⊎◌, ℕ, List, None}
 use Rattle.ct_definitions.specs.declared.change.Change.TheVariants.{Add}
 use Rattle.ct_line.specs.declared.call.Call.{Call}
+use Rattle.ct_yard.specs.Telling.{Telling}
 use Rattle.ct_yard.specs.declared.yard.Yard.{Yard}
 use Rattle.ct_yard.specs.Machine.{Machine}
 use Rattle.ct_yard.specs.Yards.{StandsFor, KeptThrough}
@@ -11,13 +12,13 @@ use Rattle.ct_isam.specs.Calls.{Replies, Tells, Writes}
 use Rattle.ct_isam.specs.Seats.{with_current}
 
 -- a running yard and a session act so, and each acknowledged transaction is kept through it
-abbrev pub ServesBy : {P L : Type 0} → Bool → (L → ℕ) → (L → List ℕ) → (L → List ℕ → Type 0) → (L → L → List ℕ → Type 0) → (Machine → List Seat → Reply → Machine → List Seat → Type 0) → Yard P L → List Seat → Reply → Yard P L → List Seat → Type 0
-ServesBy tells count_of content may_leave left_since acts old seats reply new new_seats = (founded : Bool) (front : List ℕ) (machine : Machine) → (IsTrue founded → IsTrue tells) → StandsFor founded count_of content may_leave front machine old → machine.halt ≡ None →
-    (next : Machine) × acts machine seats reply next new_seats × StandsFor founded count_of content may_leave front next new × KeptThrough founded left_since front machine old.log.device next new.log.device
+abbrev pub ServesBy : {P L : Type 0} → Telling L → (Machine → List Seat → Reply → Machine → List Seat → Type 0) → Yard P L → List Seat → Reply → Yard P L → List Seat → Type 0
+ServesBy disk acts old seats reply new new_seats = (founded : Bool) (front : List ℕ) (machine : Machine) → (IsTrue founded → IsTrue disk.tells) → StandsFor founded disk front machine old → machine.halt ≡ None →
+    (next : Machine) × acts machine seats reply next new_seats × StandsFor founded disk front next new × KeptThrough founded disk front machine old.log.device next new.log.device
 
 -- they answer a call so
-abbrev pub Serves : {P L : Type 0} → Bool → (L → ℕ) → (L → List ℕ) → (L → List ℕ → Type 0) → (L → L → List ℕ → Type 0) → Call → Yard P L → List Seat → Reply → Yard P L → List Seat → Type 0
-Serves tells count_of content may_leave left_since call old seats reply new new_seats = ServesBy tells count_of content may_leave left_since (Replies call) old seats reply new new_seats
+abbrev pub Serves : {P L : Type 0} → Telling L → Call → Yard P L → List Seat → Reply → Yard P L → List Seat → Type 0
+Serves disk call old seats reply new new_seats = ServesBy disk (Replies call) old seats reply new new_seats
 
 -- a record is added to a file under a number, or there is no memory for it
 abbrev pub AddsAs : ℕ → ℕ → List ℕ → Machine → List Seat → Reply → Machine → List Seat → Type 0

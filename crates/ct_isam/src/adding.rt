@@ -5,6 +5,7 @@ ghost use Rattle.ct_definitions.specs.Changes.{allows, may_stand};
 ghost use Rattle.ct_definitions.specs.Room.{has_fitting_len, image_at};
 ghost use Rattle.ct_line.specs.declared.call.Call.TheVariants.{Add as AddCall};
 ghost use Rattle.ct_model.specs.Fitting.{is_fitting};
+ghost use Rattle.ct_yard.specs.Telling.{telling};
 ghost use Rattle.ct_yard.specs.Yards.{IsSettled};
 ghost use Rattle.ct_isam.specs.Calls.{add_refusal};
 ghost use Rattle.ct_isam.specs.Places.{IsRefusedBy};
@@ -30,7 +31,7 @@ pub(crate) fn add<P: Disk, L: Disk>(
 ) -> Reply
     requires running { yard.old.halt ≡ None }
     requires settled { IsSettled yard.old }
-    ensures serves { Serves L.tells L.faults L.content L.may_leave L.left_since (AddCall name.now image) yard.old session.old (reply_of session.new result) yard.new session.new }
+    ensures serves { Serves (telling L.tells L.faults L.content L.may_leave L.left_since) (AddCall name.now image) yard.old session.old (reply_of session.new result) yard.new session.new }
     ensures settled { IsSettled yard.new }
     ensures pages { yard.new.pages ≡ yard.old.pages }
 {
@@ -84,7 +85,7 @@ fn add_as<P: Disk, L: Disk>(
     requires running { yard.old.halt ≡ None }
     requires settled { IsSettled yard.old }
     requires allowed { allows yard.old.state (Change.Add file num image) ≡ true }
-    ensures serves { ServesBy L.tells L.faults L.content L.may_leave L.left_since (AddsAs file num image) yard.old session.old (reply_of session.new result) yard.new session.new }
+    ensures serves { ServesBy (telling L.tells L.faults L.content L.may_leave L.left_since) (AddsAs file num image) yard.old session.old (reply_of session.new result) yard.new session.new }
     ensures settled { IsSettled yard.new }
     ensures pages { yard.new.pages ≡ yard.old.pages }
 {

@@ -1,6 +1,7 @@
 //! A call of a session answered.
 
 ghost use Rattle.std.specs.Prelude.{◌≡◌, None};
+ghost use Rattle.ct_yard.specs.Telling.{telling};
 ghost use Rattle.ct_yard.specs.Yards.{IsSettled};
 ghost use Rattle.ct_isam.specs.Serving.{Serves};
 ghost use Rattle.ct_isam.specs.Told.{reply_of};
@@ -25,7 +26,7 @@ pub fn answer<P: Disk, L: Disk>(
 ) -> Reply
     requires running { yard.old.halt ≡ None }
     requires settled { IsSettled yard.old }
-    ensures serves { Serves L.tells L.faults L.content L.may_leave L.left_since call yard.old session.old (reply_of session.new result) yard.new session.new }
+    ensures serves { Serves (telling L.tells L.faults L.content L.may_leave L.left_since) call yard.old session.old (reply_of session.new result) yard.new session.new }
     ensures settled { IsSettled yard.new }
     ensures pages { yard.new.pages ≡ yard.old.pages }
 {

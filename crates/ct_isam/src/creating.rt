@@ -6,6 +6,7 @@ ghost use Rattle.std.specs.List.{list_all};
 ghost use Rattle.ct_definitions.specs.Validity.{is_valid, is_valid_kind, is_valid_seg, is_valid_index, least_len};
 ghost use Rattle.ct_line.specs.declared.call.Call.TheVariants.{Create as CreateCall};
 ghost use Rattle.ct_line.specs.declared.call.NewFile.{NewFile as SomeFile};
+ghost use Rattle.ct_yard.specs.Telling.{telling};
 ghost use Rattle.ct_yard.specs.Yards.{IsSettled};
 ghost use Rattle.ct_isam.specs.Calls.{described, described_index, described_kind, described_seg, create_refusal};
 ghost use Rattle.ct_isam.specs.Making.{ForEachLeast, IfTooGreat};
@@ -53,7 +54,7 @@ pub(crate) fn create<P: Disk, L: Disk>(
 ) -> Reply
     requires running { yard.old.halt ≡ None }
     requires settled { IsSettled yard.old }
-    ensures serves { (seats : List SomeSeat) → Serves L.tells L.faults L.content L.may_leave L.left_since (CreateCall file.now) yard.old seats (reply_of seats result) yard.new seats }
+    ensures serves { (seats : List SomeSeat) → Serves (telling L.tells L.faults L.content L.may_leave L.left_since) (CreateCall file.now) yard.old seats (reply_of seats result) yard.new seats }
     ensures settled { IsSettled yard.new }
     ensures pages { yard.new.pages ≡ yard.old.pages }
 {
@@ -68,7 +69,7 @@ fn make<P: Disk, L: Disk>(alloc: Global, yard: &mut Yard<P, L>, def: FileDef) ->
     requires running { yard.old.halt ≡ None }
     requires settled { IsSettled yard.old }
     requires fine { create_refusal yard.old.state def ≡ None }
-    ensures serves { (file : SomeFile) → described file ≡ def → (seats : List SomeSeat) → Serves L.tells L.faults L.content L.may_leave L.left_since (CreateCall file) yard.old seats (reply_of seats result) yard.new seats }
+    ensures serves { (file : SomeFile) → described file ≡ def → (seats : List SomeSeat) → Serves (telling L.tells L.faults L.content L.may_leave L.left_since) (CreateCall file) yard.old seats (reply_of seats result) yard.new seats }
     ensures settled { IsSettled yard.new }
     ensures pages { yard.new.pages ≡ yard.old.pages }
 {

@@ -20,6 +20,7 @@ use Rattle.ct_log.specs.declared.head.Start.{Start}
 use Rattle.ct_log.proofs.Founds.{whole_found, nothing_found}
 use Rattle.ct_log.proofs.HeadReads.{pick}
 use Rattle.ct_log.proofs.MadeHeads.{front_tells}
+use Rattle.ct_yard.specs.Telling.{Telling}
 use Rattle.ct_yard.specs.declared.yard.Yard.{Yard}
 use Rattle.ct_yard.specs.Kept.{Founds}
 use Rattle.ct_yard.specs.LogTexts.{groups_text, HasTransactions}
@@ -349,21 +350,21 @@ module _ (content_of_log : List ℕ) (head : Head) (front : List ℕ) (history :
   kept_refusal Memory full undone bad = tt
 
   -- and opened as it is
-  pub kept_yard : {P L : Type 0} (tells : Bool) (count_of : L → ℕ) (content : L → List ℕ) (may_leave : L → List ℕ → Type 0) (log : L) (yard : Yard P L) → IsTrue tells → content log ≡ content_of_log → Opens tells count_of content may_leave log yard
-      → StandsFor tells count_of content may_leave front (opened_machine history (count_of yard.log.device) yard.log.flow.end yard.log.flow.next) yard
-  kept_yard {P} {L} tells count_of content may_leave log yard here is o =
+  pub kept_yard : {P L : Type 0} (disk : Telling L) (log : L) (yard : Yard P L) → IsTrue disk.tells → disk.content log ≡ content_of_log → Opens disk log yard
+      → StandsFor disk.tells disk front (opened_machine history (disk.faults yard.log.device) yard.log.flow.end yard.log.flow.next) yard
+  kept_yard {P} {L} disk log yard here is o =
       let bytes = log_bytes content_of_log in
       let end = yard.log.flow.end in
       let to = subst (λ (l : List ℕ). IsReadToEnd o.head o.front o.history end (log_bytes l)) is (o.read here) in
       let fronts = same_fronts head front history bytes founds has o.head o.front o.history end to.rest to.read in
       let histories = same_history head front history bytes founds has o.head o.front o.history end to.rest to.read to.ends in
       let closed_bytes = closed_there head front history bytes founds has o.head o.front o.history end to.rest to.read to.ends in
-      let closed : is_closed (slice_get (log_bytes (content log)) end) ≡ true = ap (λ (l : List ℕ). is_closed (slice_get (log_bytes l) end)) is ∙ closed_bytes in
-      let founded : (tells && is_closed (slice_get (log_bytes (content log)) end)) ≡ tells = ap (λ b. tells && b) closed ∙ and_true tells in
-      let machine : History → Machine = λ h. opened_machine h (count_of yard.log.device) end yard.log.flow.next in
-      subst (λ b. StandsFor b count_of content may_leave front (machine history) yard) founded
-      (subst (λ (h : History). StandsFor (tells && is_closed (slice_get (log_bytes (content log)) end)) count_of content may_leave front (machine h) yard) histories
-      (subst (λ (f : List ℕ). StandsFor (tells && is_closed (slice_get (log_bytes (content log)) end)) count_of content may_leave f (machine o.history) yard) fronts o.stands))
+      let closed : is_closed (slice_get (log_bytes (disk.content log)) end) ≡ true = ap (λ (l : List ℕ). is_closed (slice_get (log_bytes l) end)) is ∙ closed_bytes in
+      let founded : (disk.tells && is_closed (slice_get (log_bytes (disk.content log)) end)) ≡ disk.tells = ap (λ b. disk.tells && b) closed ∙ and_true disk.tells in
+      let machine : History → Machine = λ h. opened_machine h (disk.faults yard.log.device) end yard.log.flow.next in
+      subst (λ b. StandsFor b disk front (machine history) yard) founded
+      (subst (λ (h : History). StandsFor (disk.tells && is_closed (slice_get (log_bytes (disk.content log)) end)) disk front (machine h) yard) histories
+      (subst (λ (f : List ℕ). StandsFor (disk.tells && is_closed (slice_get (log_bytes (disk.content log)) end)) disk f (machine o.history) yard) fronts o.stands))
 
 -- a history that a device holds stands within the log's limit
 pub within_limit : (front : List ℕ) (ts : List Transaction) (bytes : List ℕ) → HasTransactions front ts bytes → HasTransactions front ts (log_bytes bytes)

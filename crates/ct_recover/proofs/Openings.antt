@@ -16,6 +16,7 @@ use Rattle.ct_log.specs.declared.log.Log.{Log}
 use Rattle.ct_log.specs.declared.read.LogFault.{LogFault}
 use Rattle.ct_log.specs.declared.read.LogFault.TheVariants as log_fault
 use Rattle.ct_log.proofs.HeadReads.{IsRead-then}
+use Rattle.ct_yard.specs.Telling.{Telling}
 use Rattle.ct_yard.specs.LogTexts.{groups_text}
 use Rattle.ct_recover.specs.Faults.{fault_of}
 use Rattle.ct_recover.specs.Opened.{IsOpened, RefusesLog, AnswersLog}
@@ -130,28 +131,28 @@ read_same content may_leave left_since old = record {
   goes_on = record { now = λ c left. (c, left, refl); past = λ from c left. inl left };
 }
 
-module _ {L : Type 0} (tells : Bool) (count_of : L → ℕ) (content : L → List ℕ) (may_leave : L → List ℕ → Type 0) (left_since : L → L → List ℕ → Type 0) where
+module _ {L : Type 0} (disk : Telling L) where
   -- a log whose header's gate is not open
-  pub undone : (log now : L) (head : Head) → (IsTrue tells → head_in (content log) ≡ Ok head) → head.gate ≡ false → now ≡ log → RefusesLog tells count_of content may_leave left_since log Undone now
+  pub undone : (log now : L) (head : Head) → (IsTrue disk.tells → head_in (disk.content log) ≡ Ok head) → head.gate ≡ false → now ≡ log → RefusesLog disk log Undone now
   undone log now head told gate is = record {
-    undone = λ here same. sym (gate_told (content log) head (told here)) ∙ gate;
+    undone = λ here same. sym (gate_told (disk.content log) head (told here)) ∙ gate;
     bad = λ here place same. let none : ⊥ = cc same in absurd none;
     not_empty = λ same. let none : ⊥ = cc same in none;
-    read = λ here. subst (λ (d : L). IsRead content may_leave left_since log d) (sym is) (read_same content may_leave left_since log);
-    later = omega (arith, ap count_of is);
+    read = λ here. subst (λ (d : L). IsRead disk.content disk.may_leave disk.left_since log d) (sym is) (read_same disk.content disk.may_leave disk.left_since log);
+    later = omega (arith, ap disk.faults is);
     cause = λ same. let none : ⊥ = cc same in absurd none;
   }
 
   -- a log that could not be read to its end
-  pub stopped : (log mid now : L) (head : Head) (old new : Replay) (fault : OpenFault) → Begins head old → IsTrue (is_start head.start) → (IsTrue tells → head_in (content log) ≡ Ok head) → head.gate ≡ true
-      → ReplaysLog tells (log_bytes (content log)) (Err fault) old new → (fault ≡ NotEmpty → ⊥) → (fault ≡ Undone → ⊥) → (IsTrue tells → IsRead content may_leave left_since log mid) → count_of log ≤ count_of mid
-      → (fault ≡ Device → Rose (count_of log) (count_of mid)) → now ≡ mid → RefusesLog tells count_of content may_leave left_since log fault now
+  pub stopped : (log mid now : L) (head : Head) (old new : Replay) (fault : OpenFault) → Begins head old → IsTrue (is_start head.start) → (IsTrue disk.tells → head_in (disk.content log) ≡ Ok head) → head.gate ≡ true
+      → ReplaysLog disk.tells (log_bytes (disk.content log)) (Err fault) old new → (fault ≡ NotEmpty → ⊥) → (fault ≡ Undone → ⊥) → (IsTrue disk.tells → IsRead disk.content disk.may_leave disk.left_since log mid) → disk.faults log ≤ disk.faults mid
+      → (fault ≡ Device → Rose (disk.faults log) (disk.faults mid)) → now ≡ mid → RefusesLog disk log fault now
   stopped log mid now head old new fault begins start told gate replays full made read later cause is =
-      let bytes = log_bytes (content log) in
-      subst (λ (d : L). RefusesLog tells count_of content may_leave left_since log fault d) (sym is) (record {
+      let bytes = log_bytes (disk.content log) in
+      subst (λ (d : L). RefusesLog disk log fault d) (sym is) (record {
         undone = λ here same. absurd (made same);
-        bad = λ here place same. bad_so head old begins bytes (head_within (content log) ∙ told here) gate start place
-            (let P : OpenFault → Type 0 = λ f. ReplaysLog tells bytes (Err f) old new in let stops = subst P same replays in stops here);
+        bad = λ here place same. bad_so head old begins bytes (head_within (disk.content log) ∙ told here) gate start place
+            (let P : OpenFault → Type 0 = λ f. ReplaysLog disk.tells bytes (Err f) old new in let stops = subst P same replays in stops here);
         not_empty = full;
         read = read;
         later = later;
@@ -159,12 +160,12 @@ module _ {L : Type 0} (tells : Bool) (count_of : L → ℕ) (content : L → Lis
       })
 
   -- a log that was read to its end
-  pub opened : (log : L) (head : Head) (old new : Replay) (all : Opened L) → Begins head old → IsTrue (is_start head.start) → (IsTrue tells → head_in (content log) ≡ Ok head) → head.gate ≡ true
-      → ReplaysTo tells (log_bytes (content log)) old new × (IsTrue tells → found_in (drop new.place (log_bytes (content log))) ≡ nothing)
-      → all.state ≡ new.state → all.number ≡ new.number → all.log.flow.next ≡ new.ordinal → all.log.flow.end ≡ new.place → IsOpened tells content log all
+  pub opened : (log : L) (head : Head) (old new : Replay) (all : Opened L) → Begins head old → IsTrue (is_start head.start) → (IsTrue disk.tells → head_in (disk.content log) ≡ Ok head) → head.gate ≡ true
+      → ReplaysTo disk.tells (log_bytes (disk.content log)) old new × (IsTrue disk.tells → found_in (drop new.place (log_bytes (disk.content log))) ≡ nothing)
+      → all.state ≡ new.state → all.number ≡ new.number → all.log.flow.next ≡ new.ordinal → all.log.flow.end ≡ new.place → IsOpened disk log all
   opened log head old new all begins start told gate replays state number next end =
       let to = replays.0 in
-      let bytes = log_bytes (content log) in
+      let bytes = log_bytes (disk.content log) in
       let history = history_of head to.chunks in
       record {
         head = head;
@@ -179,24 +180,24 @@ module _ {L : Type 0} (tells : Bool) (count_of : L → ℕ) (content : L → Lis
             subst (λ n. IsReadToEnd head (front_of head bytes) history n bytes) (sym end)
             (record {
               rest = drop new.place bytes;
-              read = read_to head old begins bytes (head_within (content log) ∙ told here) gate start new (told_to tells bytes old new to here);
+              read = read_to head old begins bytes (head_within (disk.content log) ∙ told here) gate start new (told_to disk.tells bytes old new to here);
               ends = replays.1 here;
             });
       }
 
   -- the log is one that can be written on, where a closed gate ends it
-  pub log_made : (log : L) (mid all : Log L) (place : ℕ) → (IsTrue tells → IsRead content may_leave left_since log mid.device) → all.flow.end ≡ place
-      → (IsTrue tells → EndsAfter (take place (content mid.device)) (content mid.device) → Only (content mid.device) (may_leave mid.device) → IsLog content may_leave all)
-      → IsTrue tells → EndsAfter (take all.flow.end (content log)) (content log) → Only (content log) (may_leave log) → IsLog content may_leave all
+  pub log_made : (log : L) (mid all : Log L) (place : ℕ) → (IsTrue disk.tells → IsRead disk.content disk.may_leave disk.left_since log mid.device) → all.flow.end ≡ place
+      → (IsTrue disk.tells → EndsAfter (take place (disk.content mid.device)) (disk.content mid.device) → Only (disk.content mid.device) (disk.may_leave mid.device) → IsLog disk.content disk.may_leave all)
+      → IsTrue disk.tells → EndsAfter (take all.flow.end (disk.content log)) (disk.content log) → Only (disk.content log) (disk.may_leave log) → IsLog disk.content disk.may_leave all
   log_made log mid all place read end made here ends only =
       let same = (read here).same in
-      let at_place : EndsAfter (take place (content log)) (content log) = subst (λ n. EndsAfter (take n (content log)) (content log)) end ends in
+      let at_place : EndsAfter (take place (disk.content log)) (disk.content log) = subst (λ n. EndsAfter (take n (disk.content log)) (disk.content log)) end ends in
       made here (subst (λ (l : List ℕ). EndsAfter (take place l) l) (sym same) at_place)
       (λ c left. (let one = (read here).goes_on.now c left in one.2 ∙ only one.0 one.1 ∙ sym same))
 
   -- reads before do not change what is told
-  pub answers_from : (log mid : L) (result : Result (Opened L) (OpenFault × L)) → (IsTrue tells → IsRead content may_leave left_since log mid) → count_of log ≤ count_of mid
-      → AnswersLog tells count_of content may_leave left_since mid result → AnswersLog tells count_of content may_leave left_since log result
+  pub answers_from : (log mid : L) (result : Result (Opened L) (OpenFault × L)) → (IsTrue disk.tells → IsRead disk.content disk.may_leave disk.left_since log mid) → disk.faults log ≤ disk.faults mid
+      → AnswersLog disk mid result → AnswersLog disk log result
   answers_from log mid (Ok all) read later is =
       let o = is.is_opened in
       record {
@@ -219,28 +220,28 @@ module _ {L : Type 0} (tells : Bool) (count_of : L → ℕ) (content : L → Lis
             is.is_log here (subst (λ (l : List ℕ). EndsAfter (take all.log.flow.end l) l) (sym same) ends)
             (λ c left. (let one = (read here).goes_on.now c left in one.2 ∙ only one.0 one.1 ∙ sym same)));
         is_open = λ here. ap has_open_header (sym (read here).same) ∙ is.is_open here;
-        read = λ here. IsRead-then content may_leave left_since log mid all.log.device (read here) (is.read here);
+        read = λ here. IsRead-then disk.content disk.may_leave disk.left_since log mid all.log.device (read here) (is.read here);
         later = omega (arith, later, is.later);
       }
   answers_from log mid (Err refusal) read later is = record {
     undone = λ here same. ap has_open_header (sym (read here).same) ∙ is.undone here same;
     bad = λ here place same. subst (λ (l : List ℕ). IsBad (log_bytes l) place) (read here).same (is.bad here place same);
     not_empty = is.not_empty;
-    read = λ here. IsRead-then content may_leave left_since log mid refusal.1 (read here) (is.read here);
+    read = λ here. IsRead-then disk.content disk.may_leave disk.left_since log mid refusal.1 (read here) (is.read here);
     later = omega (arith, later, is.later);
     cause = λ same. omega (arith, later, is.cause same);
   }
 
   -- a head that could not be read
-  pub no_head : (log now : L) (fault : LogFault) (failed : OpenFault) → failed ≡ fault_of fault → (IsTrue tells → TellsHead (Err fault) (head_in (content log))) → (IsTrue tells → IsRead content may_leave left_since log now)
-      → count_of log ≤ count_of now → (fault ≡ log_fault.Fault → Rose (count_of log) (count_of now)) → RefusesLog tells count_of content may_leave left_since log failed now
-  no_head log now fault failed is told read later cause = subst (λ (f : OpenFault). RefusesLog tells count_of content may_leave left_since log f now) (sym is) (by_fault fault told cause)
+  pub no_head : (log now : L) (fault : LogFault) (failed : OpenFault) → failed ≡ fault_of fault → (IsTrue disk.tells → TellsHead (Err fault) (head_in (disk.content log))) → (IsTrue disk.tells → IsRead disk.content disk.may_leave disk.left_since log now)
+      → disk.faults log ≤ disk.faults now → (fault ≡ log_fault.Fault → Rose (disk.faults log) (disk.faults now)) → RefusesLog disk log failed now
+  no_head log now fault failed is told read later cause = subst (λ (f : OpenFault). RefusesLog disk log f now) (sym is) (by_fault fault told cause)
     where
-      by_fault : (f : LogFault) → (IsTrue tells → TellsHead (Err f) (head_in (content log))) → (f ≡ log_fault.Fault → Rose (count_of log) (count_of now))
-          → RefusesLog tells count_of content may_leave left_since log (fault_of f) now
+      by_fault : (f : LogFault) → (IsTrue disk.tells → TellsHead (Err f) (head_in (disk.content log))) → (f ≡ log_fault.Fault → Rose (disk.faults log) (disk.faults now))
+          → RefusesLog disk log (fault_of f) now
       by_fault (log_fault.Bad at) told cause = record {
         undone = λ here same. let none : ⊥ = cc same in absurd none;
-        bad = λ here place same. (let at_is : at ≡ place = cc same in inl (head_within (content log) ∙ told here ∙ ap (λ n. Err n) at_is));
+        bad = λ here place same. (let at_is : at ≡ place = cc same in inl (head_within (disk.content log) ∙ told here ∙ ap (λ n. Err n) at_is));
         not_empty = λ same. let none : ⊥ = cc same in none;
         read = read;
         later = later;

@@ -11,6 +11,7 @@ use Rattle.ct_log.specs.Log.{IsLog, durable_text}
 use Rattle.ct_log.specs.Reading.{log_bytes}
 use Rattle.ct_log.specs.declared.head.Head.{Head}
 use Rattle.ct_log.specs.declared.log.Log.{Log}
+use Rattle.ct_yard.specs.Telling.{Telling}
 use Rattle.ct_yard.specs.declared.yard.Yard.{Yard}
 use Rattle.ct_yard.specs.LogTexts.{groups_text, log_text, IsTextOf}
 use Rattle.ct_yard.specs.Machine.{opened_machine}
@@ -52,34 +53,34 @@ text_read content head front history end to within last =
     let long : head.start.place ≤ length bytes = omega (arith, ((read.founds).is_front).ends, read.up_to, length-append front (chunks_text (map groups_text read.chunks)), length-take (2 ^ 62) content, within, last) in
     sym (take-take end (2 ^ 62) content last) ∙ ap (λ (l : List ℕ). take end l) (sym (filled_all head.start.place bytes long) ∙ read.parts) ∙ take_at text to.rest end (sym read.up_to)
 
-module _ {P L : Type 0} (tells : Bool) (count_of : L → ℕ) (content : L → List ℕ) (may_leave : L → List ℕ → Type 0) (left_since : L → L → List ℕ → Type 0) where
-  pub opens : (log mid : L) (all : Opened L) (yard : Yard P L) → (IsTrue tells → content mid ≡ content log) → (IsTrue tells → Only (content log) (may_leave mid))
-      → OpensLog tells count_of content may_leave left_since mid all → (IsTrue tells → content all.log.device ≡ content mid) → yard.log ≡ all.log
+module _ {P L : Type 0} (disk : Telling L) where
+  pub opens : (log mid : L) (all : Opened L) (yard : Yard P L) → (IsTrue disk.tells → disk.content mid ≡ disk.content log) → (IsTrue disk.tells → Only (disk.content log) (disk.may_leave mid))
+      → OpensLog disk mid all → (IsTrue disk.tells → disk.content all.log.device ≡ disk.content mid) → yard.log ≡ all.log
       → ((founded : Bool) (text : List ℕ) (history : History) → IsHistory history → all.number ≡ last_number history → all.state ≡ after history
-      → (IsTrue founded → IsLog content may_leave all.log) → (IsTrue founded → IsTextOf text history.transactions (durable_text content all.log)) → (IsTrue founded → all.log.flow.end < 2 ^ 62)
-      → StandsFor founded count_of content may_leave text (opened_machine history (count_of all.log.device) all.log.flow.end all.log.flow.next) yard)
-      → Opens tells count_of content may_leave log yard
+      → (IsTrue founded → IsLog disk.content disk.may_leave all.log) → (IsTrue founded → IsTextOf text history.transactions (durable_text disk.content all.log)) → (IsTrue founded → all.log.flow.end < 2 ^ 62)
+      → StandsFor founded disk text (opened_machine history (disk.faults all.log.device) all.log.flow.end all.log.flow.next) yard)
+      → Opens disk log yard
   opens log mid all yard same only is device same_log stands =
       let o = is.is_opened in
       let history = o.history in
       let front = o.front in
       let end = all.log.flow.end in
-      let closed = is_closed (slice_get (log_bytes (content log)) end) in
-      let founded = tells && closed in
-      let read : IsTrue tells → IsReadToEnd o.head front history end (log_bytes (content log)) = λ here. subst (λ (l : List ℕ). IsReadToEnd o.head front history end (log_bytes l)) (same here) (o.read here) in
-      let told : IsTrue founded → IsTrue tells = λ both. (and_parts tells closed both).0 in
-      let at : IsTrue founded → ClosedAt (content log) end = λ both. closed_at (content log) end (closed_in (2 ^ 62) (content log) end (and_parts tells closed both).1) in
-      let small : IsTrue founded → end < 2 ^ 62 = λ both. omega (arith, (closed_at (log_bytes (content log)) end (and_parts tells closed both).1).within, length-take (2 ^ 62) (content log)) in
-      let log_is : IsTrue founded → IsLog content may_leave all.log = λ both.
+      let closed = is_closed (slice_get (log_bytes (disk.content log)) end) in
+      let founded = disk.tells && closed in
+      let read : IsTrue disk.tells → IsReadToEnd o.head front history end (log_bytes (disk.content log)) = λ here. subst (λ (l : List ℕ). IsReadToEnd o.head front history end (log_bytes l)) (same here) (o.read here) in
+      let told : IsTrue founded → IsTrue disk.tells = λ both. (and_parts disk.tells closed both).0 in
+      let at : IsTrue founded → ClosedAt (disk.content log) end = λ both. closed_at (disk.content log) end (closed_in (2 ^ 62) (disk.content log) end (and_parts disk.tells closed both).1) in
+      let small : IsTrue founded → end < 2 ^ 62 = λ both. omega (arith, (closed_at (log_bytes (disk.content log)) end (and_parts disk.tells closed both).1).within, length-take (2 ^ 62) (disk.content log)) in
+      let log_is : IsTrue founded → IsLog disk.content disk.may_leave all.log = λ both.
       (let here = told both in
       is.is_log here (subst (λ (l : List ℕ). EndsAfter (take end l) l) (sym (same here)) (at both).ends) (λ c left. only here c left ∙ sym (same here))) in
-      let text : IsTrue founded → IsTextOf front history.transactions (durable_text content all.log) = λ both.
+      let text : IsTrue founded → IsTextOf front history.transactions (durable_text disk.content all.log) = λ both.
       (let here = told both in
       let to = read here in
       record {
         chunks = (to.read).chunks;
         in_chunks = (to.read).in_chunks;
-        is = ap (λ (l : List ℕ). take end l) (device here ∙ same here) ∙ text_read (content log) o.head front history end to (at both).within is.place;
+        is = ap (λ (l : List ℕ). take end l) (device here ∙ same here) ∙ text_read (disk.content log) o.head front history end to (at both).within is.place;
       }) in
       record {
         head = o.head;
@@ -87,8 +88,8 @@ module _ {P L : Type 0} (tells : Bool) (count_of : L → ℕ) (content : L → L
         history = history;
         base = o.base;
         next = ap (λ (l : Log L). l.flow.next) same_log ∙ o.next;
-        read = λ here. subst (λ (l : Log L). IsReadToEnd o.head front history l.flow.end (log_bytes (content log))) (sym same_log) (read here);
-        stands = subst (λ (l : Log L). StandsFor (tells && is_closed (slice_get (log_bytes (content log)) l.flow.end)) count_of content may_leave front (opened_machine history (count_of l.device) l.flow.end l.flow.next) yard) (sym same_log)
+        read = λ here. subst (λ (l : Log L). IsReadToEnd o.head front history l.flow.end (log_bytes (disk.content log))) (sym same_log) (read here);
+        stands = subst (λ (l : Log L). StandsFor (disk.tells && is_closed (slice_get (log_bytes (disk.content log)) l.flow.end)) disk front (opened_machine history (disk.faults l.device) l.flow.end l.flow.next) yard) (sym same_log)
             (stands founded front history o.defined o.number o.state log_is text small);
       }
 

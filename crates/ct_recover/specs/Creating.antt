@@ -3,8 +3,11 @@ use Rattle.std.specs.Prelude.{◌≡◌, ◌⊎◌, ℕ, List, [], ◌∷◌, �
 use Rattle.ct_definitions.specs.Histories.{History}
 use Rattle.ct_disk.specs.declared.fault.DiskError.{DiskError}
 use Rattle.ct_disk.specs.declared.fault.DiskError.TheVariants as Refused
-use Rattle.ct_log.specs.Front.{front}
+use Rattle.ct_disk.specs.Disk.{AllImages, LeavesOnly, Only}
+use Rattle.ct_log.specs.Front.{front, front_with}
 use Rattle.ct_log.specs.Heads.{has_open_header}
+use Rattle.ct_yard.specs.Kept.{Recovers}
+use Rattle.ct_yard.specs.Telling.{Telling}
 use Rattle.ct_recover.specs.declared.fault.OpenFault.{OpenFault}
 use Rattle.ct_recover.specs.declared.fault.OpenFault.TheVariants.{NotEmpty, Undone, BadLog, Device, Memory}
 
@@ -32,3 +35,16 @@ IsMakeFault (BadLog place) = ⊥
 -- the header's gate is not open, or the store is whole
 abbrev pub IsClosedOrWhole : List ℕ → List ℕ → Type 0
 IsClosedOrWhole id bytes = (has_open_header bytes ≡ false) ⊎ (bytes ≡ empty_log id)
+
+-- The log's first sync in a making has ended: it has left the new log with its header's gate closed, and at each moment since
+-- then a crash may have left the gate closed or the store whole.
+pub record IsSyncedOnce {L : Type 0} (disk : Telling L) (id : List ℕ) (now : L) : Type 0 where
+  pub synced : L
+  pub closed : disk.content synced ≡ front_with 0 id 0 ++ 0 ∷ []
+  pub stable : Only (disk.content synced) (disk.may_leave synced)
+  pub since : LeavesOnly disk.left_since (IsClosedOrWhole id) synced now
+  pub left : AllImages (IsClosedOrWhole id) (disk.may_leave now)
+
+-- the images of both devices are no store, or open as the store that was made
+abbrev pub IsNoneOrMade : List ℕ → List ℕ → List ℕ → Type 0
+IsNoneOrMade id pages log = (has_open_header log ≡ false) ⊎ Recovers (front id 0) empty_history 0 pages log

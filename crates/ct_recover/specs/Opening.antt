@@ -9,6 +9,7 @@ use Rattle.ct_log.specs.Front.{zeros}
 use Rattle.ct_log.specs.Heads.{head_in}
 use Rattle.ct_log.specs.Reading.{nothing, chunk, damage, found_in, log_bytes}
 use Rattle.ct_log.specs.declared.head.Head.{Head}
+use Rattle.ct_yard.specs.Telling.{Telling}
 use Rattle.ct_yard.specs.declared.yard.Yard.{Yard}
 use Rattle.ct_yard.specs.Kept.{Founds}
 use Rattle.ct_yard.specs.LogTexts.{groups_text, log_text, InChunks}
@@ -72,16 +73,16 @@ is_closed (Some gate) = not (gate == 1)
 
 -- The yard stands for the history that was read: from the log, where that tells its content. Where the byte of the log's last
 -- gate is there, too, a crash leaves the history; a log without it is read, but a write behind it may be seen half.
-pub record Opens {P L : Type 0} (tells : Bool) (count_of : L → ℕ) (content : L → List ℕ) (may_leave : L → List ℕ → Type 0) (log : L) (yard : Yard P L) : Type 0 where
+pub record Opens {P L : Type 0} (disk : Telling L) (log : L) (yard : Yard P L) : Type 0 where
   pub head : Head
   pub front : List ℕ
   pub history : History
   pub base : history.base ≡ []
   -- each group has the next ordinal; past the last one there is none
   pub next : yard.log.flow.next ≡ min (head.start.ordinal + length history.transactions) (2 ^ 63)
-  pub read : IsTrue tells → IsReadToEnd head front history yard.log.flow.end (log_bytes (content log))
-  pub stands : StandsFor (tells && is_closed (slice_get (log_bytes (content log)) yard.log.flow.end)) count_of content may_leave front
-      (opened_machine history (count_of yard.log.device) yard.log.flow.end yard.log.flow.next) yard
+  pub read : IsTrue disk.tells → IsReadToEnd head front history yard.log.flow.end (log_bytes (disk.content log))
+  pub stands : StandsFor (disk.tells && is_closed (slice_get (log_bytes (disk.content log)) yard.log.flow.end)) disk front
+      (opened_machine history (disk.faults yard.log.device) yard.log.flow.end yard.log.flow.next) yard
 
 -- a refusal of a store that is in order: a device failed, or memory was wanted
 abbrev pub IsNoFinding : OpenFault → Type 0
@@ -92,9 +93,9 @@ IsNoFinding Undone = ⊥
 IsNoFinding (BadLog place) = ⊥
 
 -- a store with this history is opened as it is, unless a device fails or memory is wanted
-abbrev pub OpensAs : {P L : Type 0} → Bool → (L → ℕ) → (L → List ℕ) → (L → List ℕ → Type 0) → List ℕ → History → Result (Yard P L) (OpenFault × P × L) → Type 0
-OpensAs tells count_of content may_leave front history (Ok yard) = StandsFor tells count_of content may_leave front (opened_machine history (count_of yard.log.device) yard.log.flow.end yard.log.flow.next) yard
-OpensAs tells count_of content may_leave front history (Err refusal) = IsNoFinding refusal.0
+abbrev pub OpensAs : {P L : Type 0} → Telling L → List ℕ → History → Result (Yard P L) (OpenFault × P × L) → Type 0
+OpensAs disk front history (Ok yard) = StandsFor disk.tells disk front (opened_machine history (disk.faults yard.log.device) yard.log.flow.end yard.log.flow.next) yard
+OpensAs disk front history (Err refusal) = IsNoFinding refusal.0
 
 -- a device failed only where the count of one of them rose
 abbrev pub HasOpenCause : OpenFault → ℕ → ℕ → ℕ → ℕ → Type 0

@@ -1,12 +1,13 @@
 //! Makes an empty store: its page device, its log, and last the gate of the log's header.
 
-ghost use Rattle.std.specs.Prelude.{◌≡◌, ◌≤◌, ◌<◌, ◌+◌, true, IsTrue, IsErr, OnOk, IfErr, Err};
+ghost use Rattle.std.specs.Prelude.{◌≡◌, ◌⊎◌, ◌≤◌, ◌<◌, ◌+◌, ℕ, List, true, IsTrue, IsErr, OnOk, IfErr, Err};
 ghost use Rattle.ct_disk.specs.Disk.{AllImages, Only, HasCause};
 ghost use Rattle.ct_log.specs.Front.{is_id};
 ghost use Rattle.ct_log.specs.Heads.{has_open_header};
 ghost use Rattle.ct_log.specs.Reading.{IsRead};
 ghost use Rattle.ct_yard.specs.Kept.{empty_directory};
-ghost use Rattle.ct_recover.specs.Creating.{empty_log, IsClosedOrWhole, IsMakeFault, make_fault};
+ghost use Rattle.ct_yard.specs.Telling.{telling};
+ghost use Rattle.ct_recover.specs.Creating.{empty_log, IsSyncedOnce, IsNoneOrMade, IsMakeFault, make_fault};
 ghost use Rattle.ct_recover.specs.Opening.{HasOpenCause};
 
 use crate::fault::OpenFault;
@@ -25,8 +26,8 @@ const PAGE: u64 = 4096;
 /// Makes a store without files on two devices. `NotEmpty` comes exactly where the gate of the log's header is open,
 /// and then nothing is changed. The page device is written first, then the log, and last the header's gate is opened.
 ///
-/// The log's eighth call is its first sync. From the ninth on, which writes the gate, a stop or a failed call leaves
-/// the gate closed or the store whole; before that a crash may leave any bytes of the new header.
+/// From the end of the log's first sync on, which is its eighth call, a stop or a failed call leaves the gate closed
+/// or the store whole; before that a crash may leave any bytes of the new header.
 pub fn create_store<P: Disk, L: Disk>(
     pages: &mut P,
     log: &mut L,
@@ -41,7 +42,12 @@ pub fn create_store<P: Disk, L: Disk>(
     ensures pages_stable { IsTrue P.tells → OnOk result (Only (P.content pages.new) (P.may_leave pages.new)) }
     ensures log { IsTrue L.tells → OnOk result (L.content log.new ≡ empty_log id.now) }
     ensures log_stable { IsTrue L.tells → OnOk result (Only (L.content log.new) (L.may_leave log.new)) }
-    ensures left { IsTrue L.tells → L.calls log.old + 8 < L.calls log.new → AllImages (IsClosedOrWhole id.now) (L.may_leave log.new) }
+
+    // The log is only read until a crash leaves nothing but the directory on the page device.
+    ensures order { IsTrue P.tells → IsTrue L.tells → AllImages (λ p. p ≡ empty_directory) (P.may_leave pages.new) ⊎ IsRead L.content L.may_leave L.left_since log.old log.new }
+    // From the end of the log's first sync on, each image is closed or whole, and each pair of images is no store or the one that was made.
+    ensures left { IsTrue L.tells → L.calls log.old + 8 < L.calls log.new → IsSyncedOnce (telling L.tells L.faults L.content L.may_leave L.left_since) id.now log.new }
+    ensures pairs { IsTrue P.tells → IsTrue L.tells → L.calls log.old + 8 < L.calls log.new → (p l : List ℕ) → P.may_leave pages.new p → L.may_leave log.new l → IsNoneOrMade id.now p l }
     ensures later { (P.faults pages.old ≤ P.faults pages.new) × (L.faults log.old ≤ L.faults log.new) }
     ensures cause { IfErr result (λ fault. HasOpenCause fault (P.faults pages.old) (P.faults pages.new) (L.faults log.old) (L.faults log.new)) }
 {
@@ -89,7 +95,7 @@ fn make_store_log<L: Disk>(log: &mut L, id: &[u8]) -> Result<(), DiskError>
     requires id { IsTrue (is_id id.now) }
     ensures made { IsTrue L.tells → OnOk result (L.content log.new ≡ empty_log id.now) }
     ensures stable { IsTrue L.tells → OnOk result (Only (L.content log.new) (L.may_leave log.new)) }
-    ensures left { IsTrue L.tells → L.calls log.old + 7 < L.calls log.new → AllImages (IsClosedOrWhole id.now) (L.may_leave log.new) }
+    ensures left { IsTrue L.tells → L.calls log.old + 7 < L.calls log.new → IsSyncedOnce (telling L.tells L.faults L.content L.may_leave L.left_since) id.now log.new }
     ensures cause { HasCause (L.faults log.old) (L.faults log.new) result }
 {
     if let Err(error) = make_log(log, id, 0) {

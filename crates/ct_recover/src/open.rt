@@ -10,6 +10,7 @@ ghost use Rattle.ct_log.specs.declared.head.Head.{Head};
 ghost use Rattle.ct_yard.specs.Kept.{Founds};
 ghost use Rattle.ct_yard.specs.LogTexts.{HasTransactions};
 ghost use Rattle.ct_yard.specs.Yards.{IsSettled};
+ghost use Rattle.ct_yard.specs.Telling.{telling};
 ghost use Rattle.ct_recover.specs.Opened.{AnswersLog};
 ghost use Rattle.ct_recover.specs.Opening.{IsBad, Opens, OpensAs, HasOpenCause};
 
@@ -32,7 +33,7 @@ pub fn open_store<P: Disk, L: Disk>(
     mut pages: P,
     mut log: L,
 ) -> Result<Yard<P, L>, (OpenFault, P, L)>
-    ensures opened { IfOk result (λ yard. Opens L.tells L.faults L.content L.may_leave log yard) }
+    ensures opened { IfOk result (λ yard. Opens (telling L.tells L.faults L.content L.may_leave L.left_since) log yard) }
     ensures open { IsTrue L.tells → IfOk result (λ yard. has_open_header (L.content log) ≡ true) }
     ensures undone { IsTrue L.tells → IfErr result (λ refusal. refusal.0 ≡ OpenFault.Undone → has_open_header (L.content log) ≡ false) }
     ensures bad { IsTrue L.tells → IfErr result (λ refusal. (place : ℕ) → refusal.0 ≡ OpenFault.BadLog place → IsBad (log_bytes (L.content log)) place) }
@@ -40,7 +41,7 @@ pub fn open_store<P: Disk, L: Disk>(
 
     // A store that holds a history is opened with it.
     ensures kept { IsTrue L.tells → (head : Head) (front : List ℕ) (history : History) → Founds head front history
-        → HasTransactions front history.transactions (L.content log) → OpensAs L.tells L.faults L.content L.may_leave front history result }
+        → HasTransactions front history.transactions (L.content log) → OpensAs (telling L.tells L.faults L.content L.may_leave L.left_since) front history result }
     ensures settled { IfOk result (λ yard. IsSettled yard) }
     ensures running { IfOk result (λ yard. yard.halt ≡ None) }
 
@@ -75,7 +76,7 @@ struct Opened<L: Disk> {
 
 /// Opens the log on a device and reads it. A refusal hands the device back.
 fn open_log<L: Disk>(alloc: Global, device: L) -> Result<Opened<L>, (OpenFault, L)>
-    ensures { AnswersLog L.tells L.faults L.content L.may_leave L.left_since device result }
+    ensures { AnswersLog (telling L.tells L.faults L.content L.may_leave L.left_since) device result }
 {
     match Log::open(alloc, device) {
         Ok((log, head)) => read_log(alloc, log, &head),
@@ -91,7 +92,7 @@ fn read_log<L: Disk>(
 ) -> Result<Opened<L>, (OpenFault, L)>
     requires rest { IsAtRest log.flow }
     requires start { IsTrue (is_start head.now.start) }
-    ensures { (IsTrue L.tells → head_in (L.content log.device) ≡ Ok head.now) → AnswersLog L.tells L.faults L.content L.may_leave L.left_since log.device result }
+    ensures { (IsTrue L.tells → head_in (L.content log.device) ≡ Ok head.now) → AnswersLog (telling L.tells L.faults L.content L.may_leave L.left_since) log.device result }
 {
     if !head.gate {
         return Err((OpenFault::Undone, log.into_device()));

@@ -3,6 +3,7 @@ use Rattle.std.proofs.Common.{◌≡◌, ℕ, List, ◌++◌, Bool, true, false,
 use Rattle.std.specs.Prelude.{MatchBool}
 use Rattle.ct_disk.specs.declared.turn.HaltCause.{HaltCause}
 use Rattle.ct_line.specs.declared.call.Call.{Call}
+use Rattle.ct_yard.specs.Telling.{Telling}
 use Rattle.ct_yard.specs.declared.yard.Yard.{Yard}
 use Rattle.ct_yard.specs.Machine.{Machine}
 use Rattle.ct_isam.specs.Replies.{Reply, ok, bad_line, halt_err, no_memory, silent}
@@ -59,17 +60,17 @@ running_calls call machine next visit new reply is running runs =
     by_false (is_quit call) _ _ is
     (by_none machine.halt (Runs call machine visit reply next new) (λ cause. Tells (halt_err cause) machine visit reply next new) running runs)
 
-module _ {P L : Type 0} (tells : Bool) (count_of : L → ℕ) (content : L → List ℕ) (may_leave : L → List ℕ → Type 0) (left_since : L → L → List ℕ → Type 0) where
+module _ {P L : Type 0} (disk : Telling L) where
   -- a reply that leaves the yard as it is
   pub unmoved : (Gives : Machine → Reply → Machine → Type 0) (yard : Yard P L) (reply : Reply) (text longer : List ℕ)
       → ((machine : Machine) → yard.halt ≡ machine.halt → Gives machine reply machine) → longer ≡ text ++ spelling reply
-      → AnswersBy tells count_of content may_leave left_since Gives yard yard text longer
-  unmoved Gives yard reply text longer gives written founded front machine told stands = (reply, machine, gives machine stands.halt, stands, inl refl, written)
+      → AnswersBy disk Gives yard yard text longer
+  unmoved Gives yard reply text longer gives written founded front machine told stands = (reply, machine, gives machine stands.halt, stands, record { idle = λ _. refl; moments = inl refl }, written)
 
   -- what gives an answer of one kind gives it of another
   pub given : (Gives Others : Machine → Reply → Machine → Type 0) (old new : Yard P L) (text longer : List ℕ)
       → ((machine : Machine) (reply : Reply) (next : Machine) → old.halt ≡ machine.halt → Gives machine reply next → Others machine reply next)
-      → AnswersBy tells count_of content may_leave left_since Gives old new text longer → AnswersBy tells count_of content may_leave left_since Others old new text longer
+      → AnswersBy disk Gives old new text longer → AnswersBy disk Others old new text longer
   given Gives Others old new text longer turn answers founded front machine told stands =
       let done = answers founded front machine told stands in
       (done.0, done.1, turn machine done.0 done.1 stands.halt done.2, done.3, done.4, done.5)

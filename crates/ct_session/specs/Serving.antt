@@ -1,6 +1,7 @@
 -- What a session does to a yard, by the machine that the yard stands for.
 use Rattle.std.specs.Prelude.{◌≡◌, ℕ, List, ◌++◌, Bool, true, false, IsTrue, MatchOption, Option}
 use Rattle.ct_line.specs.declared.call.Call.{Call}
+use Rattle.ct_yard.specs.Telling.{Telling}
 use Rattle.ct_yard.specs.declared.yard.Yard.{Yard}
 use Rattle.ct_yard.specs.Machine.{Machine}
 use Rattle.ct_yard.specs.Yards.{StandsFor, KeptThrough}
@@ -28,21 +29,21 @@ abbrev pub Begins : Option (List ℕ) → SessionRun → Type 0
 Begins line run = MatchOption run.asked ⊥ (IsUnderWay line run.ended)
 
 -- A session answers by a reply behind the text that waits, which its store may give, and each acknowledged transaction is kept through it.
-abbrev pub AnswersBy : {P L : Type 0} → Bool → (L → ℕ) → (L → List ℕ) → (L → List ℕ → Type 0) → (L → L → List ℕ → Type 0) → (Machine → Reply → Machine → Type 0) → Yard P L → Yard P L → List ℕ → List ℕ → Type 0
-AnswersBy tells count_of content may_leave left_since Gives old new text longer = (founded : Bool) (front : List ℕ) (machine : Machine) → (IsTrue founded → IsTrue tells) → StandsFor founded count_of content may_leave front machine old →
-    (reply : Reply) × (next : Machine) × Gives machine reply next × StandsFor founded count_of content may_leave front next new × KeptThrough founded left_since front machine old.log.device next new.log.device × (longer ≡ text ++ spelling reply)
+abbrev pub AnswersBy : {P L : Type 0} → Telling L → (Machine → Reply → Machine → Type 0) → Yard P L → Yard P L → List ℕ → List ℕ → Type 0
+AnswersBy disk Gives old new text longer = (founded : Bool) (front : List ℕ) (machine : Machine) → (IsTrue founded → IsTrue disk.tells) → StandsFor founded disk front machine old →
+    (reply : Reply) × (next : Machine) × Gives machine reply next × StandsFor founded disk front next new × KeptThrough founded disk front machine old.log.device next new.log.device × (longer ≡ text ++ spelling reply)
 
 -- a running store answers a call
-abbrev pub AnswersRunning : {P L : Type 0} → Bool → (L → ℕ) → (L → List ℕ) → (L → List ℕ → Type 0) → (L → L → List ℕ → Type 0) → Call → Yard P L → List Seat → Yard P L → List Seat → List ℕ → List ℕ → Type 0
-AnswersRunning tells count_of content may_leave left_since call old seats new new_seats text longer =
-    AnswersBy tells count_of content may_leave left_since (λ machine reply next. Replies call machine seats reply next new_seats) old new text longer
+abbrev pub AnswersRunning : {P L : Type 0} → Telling L → Call → Yard P L → List Seat → Yard P L → List Seat → List ℕ → List ℕ → Type 0
+AnswersRunning disk call old seats new new_seats text longer =
+    AnswersBy disk (λ machine reply next. Replies call machine seats reply next new_seats) old new text longer
 
 -- a session answers a call
-abbrev pub AnswersCall : {P L : Type 0} → Bool → (L → ℕ) → (L → List ℕ) → (L → List ℕ → Type 0) → (L → L → List ℕ → Type 0) → Call → Yard P L → Visit → Yard P L → Visit → List ℕ → List ℕ → Type 0
-AnswersCall tells count_of content may_leave left_since call old visit new new_visit text longer =
-    AnswersBy tells count_of content may_leave left_since (λ machine reply next. Calls call machine visit reply next new_visit) old new text longer
+abbrev pub AnswersCall : {P L : Type 0} → Telling L → Call → Yard P L → Visit → Yard P L → Visit → List ℕ → List ℕ → Type 0
+AnswersCall disk call old visit new new_visit text longer =
+    AnswersBy disk (λ machine reply next. Calls call machine visit reply next new_visit) old new text longer
 
 -- a session answers a line
-abbrev pub AnswersLine : {P L : Type 0} → Bool → (L → ℕ) → (L → List ℕ) → (L → List ℕ → Type 0) → (L → L → List ℕ → Type 0) → Yard P L → Visit → Option (List ℕ) → Yard P L → Visit → List ℕ → List ℕ → Type 0
-AnswersLine tells count_of content may_leave left_since old visit line new new_visit text longer =
-    AnswersBy tells count_of content may_leave left_since (λ machine reply next. Step machine visit line reply next new_visit) old new text longer
+abbrev pub AnswersLine : {P L : Type 0} → Telling L → Yard P L → Visit → Option (List ℕ) → Yard P L → Visit → List ℕ → List ℕ → Type 0
+AnswersLine disk old visit line new new_visit text longer =
+    AnswersBy disk (λ machine reply next. Step machine visit line reply next new_visit) old new text longer

@@ -3,6 +3,7 @@
 
 ghost use Rattle.std.specs.Prelude.{◌≡◌, ◌≤◌, ◌+◌, ℕ, List, Option, Some, None, true, false, OnOk, OnErr, vec_len, vec_capacity};
 ghost use Rattle.std.specs.Option.{IsSome, option_copied};
+ghost use Rattle.ct_yard.specs.Telling.{telling};
 ghost use Rattle.ct_yard.specs.Yards.{IsSettled};
 ghost use Rattle.ct_session.specs.declared.reply.TheConstants.{LONGEST_REPLY};
 ghost use Rattle.ct_session.specs.Steps.{begun_visit, is_quit};
@@ -110,7 +111,7 @@ impl SessionRun {
         requires begun { IsSome self.old.asked }
         requires room { vec_len out.old + LONGEST_REPLY ≤ vec_capacity out.old }
         requires settled { IsSettled yard.old }
-        ensures answers { (line : Option (List ℕ)) → Begins line self.old → AnswersLine L.tells L.faults L.content L.may_leave L.left_since yard.old (visit_of self.old) line yard.new (visit_of self.new) out.old.items out.new.items }
+        ensures answers { (line : Option (List ℕ)) → Begins line self.old → AnswersLine (telling L.tells L.faults L.content L.may_leave L.left_since) yard.old (visit_of self.old) line yard.new (visit_of self.new) out.old.items out.new.items }
         ensures done { result ≡ Turn.Done tt }
         ensures idle { self.new.asked ≡ None }
         ensures number { self.new.number ≡ self.old.number }
@@ -133,7 +134,7 @@ impl SessionRun {
     )
         requires room { vec_len out.old + LONGEST_REPLY ≤ vec_capacity out.old }
         requires settled { IsSettled yard.old }
-        ensures answers { (line : Option (List ℕ)) → IsUnderWay line self.old.ended asked → AnswersLine L.tells L.faults L.content L.may_leave L.left_since yard.old (visit_of self.old) line yard.new (visit_of self.new) out.old.items out.new.items }
+        ensures answers { (line : Option (List ℕ)) → IsUnderWay line self.old.ended asked → AnswersLine (telling L.tells L.faults L.content L.may_leave L.left_since) yard.old (visit_of self.old) line yard.new (visit_of self.new) out.old.items out.new.items }
         ensures asked { self.new.asked ≡ self.old.asked }
         ensures number { self.new.number ≡ self.old.number }
         ensures settled { IsSettled yard.new }
@@ -157,7 +158,7 @@ impl SessionRun {
     )
         requires room { vec_len out.old + LONGEST_REPLY ≤ vec_capacity out.old }
         requires settled { IsSettled yard.old }
-        ensures answers { AnswersCall L.tells L.faults L.content L.may_leave L.left_since call yard.old (visit_of self.old) yard.new (visit_of self.new) out.old.items out.new.items }
+        ensures answers { AnswersCall (telling L.tells L.faults L.content L.may_leave L.left_since) call yard.old (visit_of self.old) yard.new (visit_of self.new) out.old.items out.new.items }
         ensures asked { self.new.asked ≡ self.old.asked }
         ensures number { self.new.number ≡ self.old.number }
         ensures settled { IsSettled yard.new }
@@ -204,7 +205,7 @@ fn answer_running<P: Disk, L: Disk>(
     requires running { yard.old.halt ≡ None }
     requires room { vec_len out.old + LONGEST_REPLY ≤ vec_capacity out.old }
     requires settled { IsSettled yard.old }
-    ensures answers { AnswersRunning L.tells L.faults L.content L.may_leave L.left_since call yard.old session.old yard.new session.new out.old.items out.new.items }
+    ensures answers { AnswersRunning (telling L.tells L.faults L.content L.may_leave L.left_since) call yard.old session.old yard.new session.new out.old.items out.new.items }
     ensures settled { IsSettled yard.new }
     ensures pages { yard.new.pages ≡ yard.old.pages }
     ensures capacity { vec_capacity out.old ≤ vec_capacity out.new }
@@ -226,7 +227,7 @@ pub fn serve<P: Disk, L: Disk>(
     requires idle { run.old.asked ≡ None }
     requires room { vec_len out.old + LONGEST_REPLY ≤ vec_capacity out.old }
     requires settled { IsSettled yard.old }
-    ensures answers { AnswersLine L.tells L.faults L.content L.may_leave L.left_since yard.old (visit_of run.old) (option_copied line.entry) yard.new (visit_of run.new) out.old.items out.new.items }
+    ensures answers { AnswersLine (telling L.tells L.faults L.content L.may_leave L.left_since) yard.old (visit_of run.old) (option_copied line.entry) yard.new (visit_of run.new) out.old.items out.new.items }
     ensures idle { run.new.asked ≡ None }
     ensures settled { IsSettled yard.new }
     ensures pages { yard.new.pages ≡ yard.old.pages }

@@ -4,6 +4,7 @@ use Rattle.ct_disk.specs.Disk.{Rose}
 use Rattle.ct_disk.specs.declared.turn.HaltCause.{HaltCause}
 use Rattle.ct_disk.specs.declared.turn.HaltCause.TheVariants.{Write, Read, Memory as NoRoomLeft, BadPage, BadLog, Limit}
 use Rattle.ct_transcript.specs.Transcript.{Served}
+use Rattle.ct_yard.specs.Telling.{Telling}
 use Rattle.ct_yard.specs.Machine.{Machine, HasHaltCause}
 use Rattle.ct_session.specs.Replies.{spelling}
 use Rattle.ct_session.proofs.Moves.{MovesRunning, step_moves}
@@ -12,8 +13,8 @@ use Rattle.ct_tool.specs.declared.input.Stop.TheVariants.{End, Quit, Source as S
 use Rattle.ct_tool.specs.declared.ended.Cause.{Cause}
 use Rattle.ct_tool.specs.declared.ended.Cause.TheVariants.{Done, Usage, Unbuilt, Undone, NotEmpty, BadLog as BadLogAt, BadPage as BadPageAt, Limit as AtLimit, Device, Memory, Source, Sink, Long}
 use Rattle.ct_tool.specs.Ends.{stopped_by, halted_by}
-use Rattle.ct_tool.specs.Told.{Moment, KeptStep, HasStopCause}
-use Rattle.ct_tool.specs.Runs.{IsSessionCause, HasRunCause}
+use Rattle.ct_tool.specs.Talking.{Moment, KeptStep, Input, Output, StopsBy}
+use Rattle.ct_tool.specs.Causes.{IsSessionCause, HasRunCause}
 
 -- what holds of a machine since its first count: a running one has failed no less often, and a halted one has its cause
 abbrev pub IsCaused : ℕ → Machine → Type 0
@@ -55,35 +56,35 @@ caused_moves first m next caused (inr moves) =
     ]
 
 -- over a whole run
-pub caused_served : {L : Type 0} (founded : Bool) (left_since : L → L → List ℕ → Type 0) (front : List ℕ) (first : ℕ) (old : Moment L) (lines : List (Option (List ℕ))) (text : List ℕ) (new : Moment L) → IsCaused first old.machine
-    → Served (KeptStep founded left_since front) spelling old lines text new → IsCaused first new.machine
-caused_served founded left_since front first old [] text new caused served = same_is_caused first old.machine new.machine caused (ap (λ m. m.machine) served.1)
-caused_served founded left_since front first old (line ∷ lines) text new caused served =
+pub caused_served : {L : Type 0} (founded : Bool) (disk : Telling L) (front : List ℕ) (first : ℕ) (old : Moment L) (lines : List (Option (List ℕ))) (text : List ℕ) (new : Moment L) → IsCaused first old.machine
+    → Served (KeptStep founded disk front) spelling old lines text new → IsCaused first new.machine
+caused_served founded disk front first old [] text new caused served = same_is_caused first old.machine new.machine caused (ap (λ m. m.machine) served.1)
+caused_served founded disk front first old (line ∷ lines) text new caused served =
     let mid = served.1 in
-    caused_served founded left_since front first mid lines served.2 new
+    caused_served founded disk front first mid lines served.2 new
     (caused_moves first old.machine mid.machine caused (step_moves old.machine mid.machine old.visit mid.visit line served.0 (served.3).0)) served.5
 
 -- whose count rose, of a run that a session's input and its halt ended
-pub run_cause : (stop : Stop) (halt : Option HaltCause) (pages log log' source source' sink sink' : ℕ) → HasStopCause stop source source' sink sink' → MatchOption halt (log ≤ log') (λ cause. HasHaltCause cause log log')
-    → HasRunCause (stopped_by stop halt) pages pages log log' source source' sink sink'
-run_cause End None pages log log' source source' sink sink' stopped caused = stopped
-run_cause End (Some Write) pages log log' source source' sink sink' stopped caused = inr caused
-run_cause End (Some Read) pages log log' source source' sink sink' stopped caused = absurd caused
-run_cause End (Some NoRoomLeft) pages log log' source source' sink sink' stopped caused = stopped
-run_cause End (Some (BadPage page)) pages log log' source source' sink sink' stopped caused = absurd caused
-run_cause End (Some (BadLog place)) pages log log' source source' sink sink' stopped caused = absurd caused
-run_cause End (Some Limit) pages log log' source source' sink sink' stopped caused = stopped
-run_cause Quit None pages log log' source source' sink sink' stopped caused = stopped
-run_cause Quit (Some Write) pages log log' source source' sink sink' stopped caused = inr caused
-run_cause Quit (Some Read) pages log log' source source' sink sink' stopped caused = absurd caused
-run_cause Quit (Some NoRoomLeft) pages log log' source source' sink sink' stopped caused = stopped
-run_cause Quit (Some (BadPage page)) pages log log' source source' sink sink' stopped caused = absurd caused
-run_cause Quit (Some (BadLog place)) pages log log' source source' sink sink' stopped caused = absurd caused
-run_cause Quit (Some Limit) pages log log' source source' sink sink' stopped caused = stopped
-run_cause SourceFailed halt pages log log' source source' sink sink' stopped caused = stopped.0
-run_cause SinkFailed halt pages log log' source source' sink sink' stopped caused = stopped.1
-run_cause NoRoom halt pages log log' source source' sink sink' stopped caused = stopped
-run_cause TooLong halt pages log log' source source' sink sink' stopped caused = stopped
+pub run_cause : (stop : Stop) (halt : Option HaltCause) (pages log log' : ℕ) (i i' : Input) (o o' : Output) → StopsBy stop i i' o o' → MatchOption halt (log ≤ log') (λ cause. HasHaltCause cause log log')
+    → HasRunCause (stopped_by stop halt) pages pages log log' i.faults i'.faults o.faults o'.faults
+run_cause End None pages log log' i i' o o' stops caused = (stops.2, stops.3)
+run_cause End (Some Write) pages log log' i i' o o' stops caused = inr caused
+run_cause End (Some Read) pages log log' i i' o o' stops caused = absurd caused
+run_cause End (Some NoRoomLeft) pages log log' i i' o o' stops caused = (stops.2, stops.3)
+run_cause End (Some (BadPage page)) pages log log' i i' o o' stops caused = absurd caused
+run_cause End (Some (BadLog place)) pages log log' i i' o o' stops caused = absurd caused
+run_cause End (Some Limit) pages log log' i i' o o' stops caused = (stops.2, stops.3)
+run_cause Quit None pages log log' i i' o o' stops caused = (stops.1, stops.2)
+run_cause Quit (Some Write) pages log log' i i' o o' stops caused = inr caused
+run_cause Quit (Some Read) pages log log' i i' o o' stops caused = absurd caused
+run_cause Quit (Some NoRoomLeft) pages log log' i i' o o' stops caused = (stops.1, stops.2)
+run_cause Quit (Some (BadPage page)) pages log log' i i' o o' stops caused = absurd caused
+run_cause Quit (Some (BadLog place)) pages log log' i i' o o' stops caused = absurd caused
+run_cause Quit (Some Limit) pages log log' i i' o o' stops caused = (stops.1, stops.2)
+run_cause SourceFailed halt pages log log' i i' o o' stops caused = stops.1
+run_cause SinkFailed halt pages log log' i i' o o' stops caused = stops.2
+run_cause NoRoom halt pages log log' i i' o o' stops caused = (stops.1, stops.2)
+run_cause TooLong halt pages log log' i i' o o' stops caused = (stops.2, stops.3)
 
 -- how a session's run may end
 pub session_cause : (stop : Stop) (halt : Option HaltCause) (log log' : ℕ) → MatchOption halt (log ≤ log') (λ cause. HasHaltCause cause log log') → IsSessionCause (stopped_by stop halt)
@@ -135,15 +136,4 @@ long_at_long TooLong halt why = refl
 -- a count that rose since later rose since earlier
 pub cause_since : (cause : Cause) (p p' p'' l l' l'' source source' sink sink' : ℕ) → p ≤ p' → l ≤ l' → HasRunCause cause p' p'' l' l'' source source' sink sink' → HasRunCause cause p p'' l l'' source source' sink sink'
 cause_since Device p p' p'' l l' l'' source source' sink sink' pages log has = elim has [ inl rose ↦ inl (rose_since p p' p'' pages rose) | inr rose ↦ inr (rose_since l l' l'' log rose) ]
-cause_since Source p p' p'' l l' l'' source source' sink sink' pages log has = has
-cause_since Sink p p' p'' l l' l'' source source' sink sink' pages log has = has
-cause_since Done p p' p'' l l' l'' source source' sink sink' pages log has = has
-cause_since Usage p p' p'' l l' l'' source source' sink sink' pages log has = has
-cause_since Unbuilt p p' p'' l l' l'' source source' sink sink' pages log has = has
-cause_since Undone p p' p'' l l' l'' source source' sink sink' pages log has = has
-cause_since NotEmpty p p' p'' l l' l'' source source' sink sink' pages log has = has
-cause_since (BadLogAt place) p p' p'' l l' l'' source source' sink sink' pages log has = has
-cause_since (BadPageAt page) p p' p'' l l' l'' source source' sink sink' pages log has = has
-cause_since AtLimit p p' p'' l l' l'' source source' sink sink' pages log has = has
-cause_since Memory p p' p'' l l' l'' source source' sink sink' pages log has = has
-cause_since Long p p' p'' l l' l'' source source' sink sink' pages log has = has
+cause_since cause p p' p'' l l' l'' source source' sink sink' pages log has = has

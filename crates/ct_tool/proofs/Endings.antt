@@ -14,7 +14,7 @@ use Rattle.ct_words.specs.Commands.{AskCreate, is_id, is_shelf_name, is_option}
 use Rattle.ct_tool.specs.declared.ended.Cause.{Cause}
 use Rattle.ct_tool.specs.declared.ended.Cause.TheVariants.{Done, Usage, Unbuilt, Undone, NotEmpty, BadLog, BadPage, Limit, Device, Memory, Source, Sink, Long}
 use Rattle.ct_tool.specs.Ends.{open_cause}
-use Rattle.ct_tool.specs.Runs.{IsOpenCause, IsPutCause, IsSessionCause, IsExecCause, IsCreateCause}
+use Rattle.ct_tool.specs.Causes.{IsOpenCause, IsPutCause, IsSessionCause, IsCreateCause}
 
 pub put_is_not_bad : {A : Type 0} (cause : Cause) (place : ℕ) → IsPutCause cause → cause ≡ BadLog place → A
 put_is_not_bad cause place kind same = absurd (subst (λ (c : Cause). IsPutCause c) same kind)
@@ -69,22 +69,6 @@ log_id id has =
     let bytes = and_right (is_between 1 LONGEST_NAME (length id)) (list_all is_name_byte id) name in
     let some = and_left (nat_le 1 (length id)) (nat_le (length id) LONGEST_NAME) between in
     all_three (nat_le 1 (length id)) (nat_le (length id) 16) (list_any (λ byte. byte == 0) id) some short (no_zero id bytes)
-
--- a session ends as `exec` may
-pub exec_ends : (cause : Cause) → IsSessionCause cause → IsExecCause cause
-exec_ends Done kind = tt
-exec_ends Usage kind = absurd kind
-exec_ends Unbuilt kind = absurd kind
-exec_ends Undone kind = absurd kind
-exec_ends NotEmpty kind = absurd kind
-exec_ends (BadLog place) kind = absurd kind
-exec_ends (BadPage page) kind = absurd kind
-exec_ends Limit kind = tt
-exec_ends Device kind = tt
-exec_ends Memory kind = tt
-exec_ends Source kind = tt
-exec_ends Sink kind = tt
-exec_ends Long kind = tt
 
 pub session_is_not_undone : {A : Type 0} (cause : Cause) → IsSessionCause cause → cause ≡ Undone → A
 session_is_not_undone cause kind same = absurd (subst (λ (c : Cause). IsSessionCause c) same kind)

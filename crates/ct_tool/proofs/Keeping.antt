@@ -8,8 +8,10 @@ use Rattle.ct_log.specs.Reading.{IsRead}
 use Rattle.ct_log.specs.declared.head.Head.{Head}
 use Rattle.ct_yard.specs.Kept.{Founds, Kept, empty_directory}
 use Rattle.ct_yard.specs.LogTexts.{HasTransactions, up_to_number}
+use Rattle.ct_yard.specs.Telling.{telling}
 use Rattle.ct_yard.specs.Machine.{opened_machine}
 use Rattle.ct_tool.specs.declared.ended.Cause.{Cause}
+use Rattle.ct_tool.specs.Talking.{Input, Output}
 use Rattle.ct_tool.specs.Runs.{RanSession, StaysKept}
 
 -- where no call was made
@@ -51,11 +53,13 @@ module _ {P L : Type 0} (p_content : P → List ℕ) (p_may_leave : P → List �
   founds_opened = record { is_front = founds.is_front; base = founds.base; base_number = founds.base_number; defined = IsHistory-front history number founds.defined }
 
   -- no session ran
-  pub none_keeps : IsRead content may_leave left_since log now → StaysKept (p_may_leave now_pages) (may_leave now) front history least
+  pub none_keeps : IsRead content may_leave left_since log now → StaysKept (p_may_leave now_pages) (may_leave now) head front history least
   none_keeps read_log = record {
     number = last_number history;
     kept_before = omega (arith, above, within);
     later = history;
+    founds = founds;
+    base = refl;
     begins = Begins-front history (last_number history) founds.defined (omega arith) (omega arith);
     acknowledged = least;
     from_least = omega arith;
@@ -66,12 +70,12 @@ module _ {P L : Type 0} (p_content : P → List ℕ) (p_may_leave : P → List �
   }
 
   -- a session ran
-  pub session_keeps : (tells : Bool) (count_of : L → ℕ) (cause : Cause) (n : ℕ) (t t' w w' : Option (List ℕ)) → IsTrue tells → RanSession tells count_of content may_leave left_since now_pages log now cause n t t' w w'
-      → StaysKept (p_may_leave now_pages) (may_leave now) front history least
-  session_keeps tells count_of cause n t t' w w' told ran =
+  pub session_keeps : (tells : Bool) (faults : L → ℕ) (cause : Cause) (n : ℕ) (i i' : Input) (o o' : Output) → IsTrue tells → RanSession (telling tells faults content may_leave left_since) now_pages log now cause n i i' o o'
+      → StaysKept (p_may_leave now_pages) (may_leave now) head front history least
+  session_keeps tells faults cause n i i' o o' told ran =
       let yard = ran.yard in
       let opened = history_up_to number history in
-      let machine = opened_machine opened (count_of yard.log.device) yard.log.flow.end yard.log.flow.next in
+      let machine = opened_machine opened (faults (yard.log).device) (yard.log).flow.end (yard.log).flow.next in
       let stands = (ran.opened).as_kept told head front opened founds_opened has in
       let session = (ran.session).ran tells front machine (λ here. here) stands refl in
       let last : last_number opened ≡ number = last_number-front history number founds.defined (omega (arith, from_base, above)) within in
@@ -79,6 +83,8 @@ module _ {P L : Type 0} (p_content : P → List ℕ) (p_may_leave : P → List �
         number = number;
         kept_before = above;
         later = (session.end).history;
+        founds = record { is_front = founds.is_front; base = session.base ∙ founds.base; base_number = session.base_number ∙ founds.base_number; defined = session.defined };
+        base = session.base_number;
         begins = session.begins;
         acknowledged = (session.end).acknowledged;
         from_least = omega (arith, session.acknowledged, last, above);

@@ -4,27 +4,18 @@ use Rattle.std.proofs.lemmas.List.{append-nil}
 use Rattle.ct_disk.specs.Disk.{Only}
 use Rattle.ct_log.specs.Front.{front}
 use Rattle.ct_log.proofs.Fronts.{length-front}
+use Rattle.ct_yard.specs.Telling.{Telling}
 use Rattle.ct_yard.specs.Kept.{empty_directory}
 use Rattle.ct_yard.specs.LogTexts.{HasTransactions}
 use Rattle.ct_recover.specs.Creating.{empty_log}
+use Rattle.ct_recover.proofs.Creations.{empty_has}
 use Rattle.ct_tool.specs.Runs.{IsMade}
 
-empty_has : (id bytes : List ℕ) → length id ≤ 16 → bytes ≡ empty_log id → HasTransactions (front id 0) [] bytes
-empty_has id bytes short is = record {
-  text = front id 0;
-  is_text = record {
-    chunks = [];
-    in_chunks = record { joined = refl; short = λ k d below. absurd (omega arith); fit = λ k d below. absurd (omega arith) };
-    is = sym (append-nil (front id 0));
-  };
-  within = omega (arith, length-front id 0 short);
-  ends = record { gate = 0; behind = []; is_closed = omega arith; parts = is };
-}
-
-pub made : {P L : Type 0} (p_tells : Bool) (p_content : P → List ℕ) (p_may_leave : P → List ℕ → Type 0) (tells : Bool) (content : L → List ℕ) (may_leave : L → List ℕ → Type 0) (id : List ℕ) (pages : P) (log : L) → length id ≤ 16
-    → (IsTrue p_tells → p_content pages ≡ empty_directory) → (IsTrue p_tells → Only (p_content pages) (p_may_leave pages)) → (IsTrue tells → content log ≡ empty_log id) → (IsTrue tells → Only (content log) (may_leave log))
-    → IsMade p_tells p_content p_may_leave tells content may_leave id pages log
-made p_tells p_content p_may_leave tells content may_leave id pages log short directory stable empty log_stable = record {
+pub made : {P L : Type 0} (pages_disk : Telling P) (log_disk : Telling L) (id : List ℕ) (pages : P) (log : L) → length id ≤ 16
+    → (IsTrue pages_disk.tells → pages_disk.content pages ≡ empty_directory) → (IsTrue pages_disk.tells → Only (pages_disk.content pages) (pages_disk.may_leave pages))
+    → (IsTrue log_disk.tells → log_disk.content log ≡ empty_log id) → (IsTrue log_disk.tells → Only (log_disk.content log) (log_disk.may_leave log))
+    → IsMade pages_disk log_disk id pages log
+made pages_disk log_disk id pages log short directory stable empty log_stable = record {
   directory = directory;
   empty = empty;
   kept = λ p_told told p l left_p left_l. (

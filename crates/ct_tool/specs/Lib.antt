@@ -1,3 +1,4 @@
-pub mod Told
+pub mod Causes
+pub mod Talking
 pub mod Ends
 pub mod Runs

@@ -6,7 +6,9 @@ ghost use Rattle.ct_log.specs.Heads.{has_open_header};
 ghost use Rattle.ct_log.specs.Reading.{IsRead, log_bytes};
 ghost use Rattle.ct_recover.specs.Opening.{IsBad};
 ghost use Rattle.ct_tool.specs.Ends.{status_of};
-ghost use Rattle.ct_tool.specs.Runs.{IsCheckCause, IsOpenCause, IsPutCause, HasPutCause, PutsOrKeeps, Checked, check_line, HasRunCause};
+ghost use Rattle.ct_tool.specs.Causes.{IsCheckCause, IsOpenCause, IsPutCause, HasPutCause, PutsOrKeeps, HasRunCause};
+ghost use Rattle.ct_tool.specs.Runs.{Checked, check_line};
+ghost use Rattle.ct_yard.specs.Telling.{telling};
 
 use crate::ended::{Cause, Ended, open_cause, put_cause};
 use ct_disk::Disk;
@@ -67,7 +69,7 @@ pub(crate) fn check<P: Disk, L: Disk, O: Sink>(
 ) -> Ended<P, L>
     ensures status { result.status ≡ status_of result.cause }
     ensures kind { IsCheckCause result.cause }
-    ensures run { Checked L.tells L.faults L.content L.may_leave result.pages log result.log result.cause result.front (O.written out.old) (O.written out.new)
+    ensures run { Checked (telling L.tells L.faults L.content L.may_leave L.left_since) result.pages log result.log result.cause result.front (O.written out.old) (O.written out.new)
         ⊎ (IsOpenCause result.cause × (result.front ≡ 0) × Keeps (O.written out.old) (O.written out.new)) }
     ensures pages { IsTrue P.tells → IsRead P.content P.may_leave P.left_since pages result.pages }
     ensures log { IsTrue L.tells → IsRead L.content L.may_leave L.left_since log result.log }

@@ -1,15 +1,17 @@
 //! `create`: an empty store made on the devices.
 
-ghost use Rattle.std.specs.Prelude.{◌≡◌, ◌≢◌, ◌<◌, ◌+◌, true, IsTrue, codes, Ok};
+ghost use Rattle.std.specs.Prelude.{◌≡◌, ◌≢◌, ◌⊎◌, ◌<◌, ◌+◌, ℕ, List, true, IsTrue, codes, Ok};
 ghost use Rattle.std.specs.Io.KnownBytes.{Keeps};
 ghost use Rattle.ct_disk.specs.Disk.{AllImages, Only};
 ghost use Rattle.ct_log.specs.Front.{is_id};
 ghost use Rattle.ct_log.specs.Heads.{has_open_header};
 ghost use Rattle.ct_log.specs.Reading.{IsRead};
 ghost use Rattle.ct_yard.specs.Kept.{empty_directory};
-ghost use Rattle.ct_recover.specs.Creating.{empty_log, IsClosedOrWhole};
+ghost use Rattle.ct_yard.specs.Telling.{telling};
+ghost use Rattle.ct_recover.specs.Creating.{empty_log, IsSyncedOnce, IsNoneOrMade};
 ghost use Rattle.ct_tool.specs.Ends.{status_of};
-ghost use Rattle.ct_tool.specs.Runs.{IsCreateCause, MadeBy, IsMade, PutsOrKeeps, HasRunCause};
+ghost use Rattle.ct_tool.specs.Causes.{IsCreateCause, MadeBy, PutsOrKeeps, HasRunCause};
+ghost use Rattle.ct_tool.specs.Runs.{IsMade};
 
 use crate::ended::{Cause, Ended, open_cause, put_cause};
 use ct_disk::Disk;
@@ -29,8 +31,10 @@ pub(crate) fn create<P: Disk, L: Disk, O: Sink>(
     ensures front { result.front ≡ 0 }
     ensures not_empty { IsTrue L.tells → result.cause ≡ Cause.NotEmpty → has_open_header (L.content log) ≡ true }
     ensures kept { IsTrue L.tells → has_open_header (L.content log) ≡ true → (result.cause ≢ Cause.Done) × (result.cause ≢ Cause.Sink) × (result.pages ≡ pages) × IsRead L.content L.may_leave L.left_since log result.log }
-    ensures made { MadeBy result.cause → IsMade P.tells P.content P.may_leave L.tells L.content L.may_leave id.now result.pages result.log }
-    ensures left { IsTrue L.tells → L.calls log + 8 < L.calls result.log → AllImages (IsClosedOrWhole id.now) (L.may_leave result.log) }
+    ensures made { MadeBy result.cause → IsMade (telling P.tells P.faults P.content P.may_leave P.left_since) (telling L.tells L.faults L.content L.may_leave L.left_since) id.now result.pages result.log }
+    ensures order { IsTrue P.tells → IsTrue L.tells → AllImages (λ p. p ≡ empty_directory) (P.may_leave result.pages) ⊎ IsRead L.content L.may_leave L.left_since log result.log }
+    ensures left { IsTrue L.tells → L.calls log + 8 < L.calls result.log → IsSyncedOnce (telling L.tells L.faults L.content L.may_leave L.left_since) id.now result.log }
+    ensures pairs { IsTrue P.tells → IsTrue L.tells → L.calls log + 8 < L.calls result.log → (p l : List ℕ) → P.may_leave result.pages p → L.may_leave result.log l → IsNoneOrMade id.now p l }
     ensures put { PutsOrKeeps result.cause (O.written out.old) (O.written out.new) (codes "OK 0\n") }
     ensures cause { HasRunCause result.cause (P.faults pages) (P.faults result.pages) (L.faults log) (L.faults result.log) 0 0 (O.faults out.old) (O.faults out.new) }
 {

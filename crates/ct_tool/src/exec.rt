@@ -2,14 +2,14 @@
 
 ghost use Rattle.std.specs.Prelude.{◌≡◌, ◌⊎◌, ◌<◌, ◌≤◌, ◌+◌, ◌^◌, ℕ, List, false, IsTrue};
 ghost use Rattle.std.specs.Io.KnownBytes.{Keeps};
-ghost use Rattle.ct_definitions.specs.Histories.{History};
 ghost use Rattle.ct_log.specs.Heads.{has_open_header};
-ghost use Rattle.ct_log.specs.declared.head.Head.{Head};
-ghost use Rattle.ct_yard.specs.Kept.{Founds, Kept};
 ghost use Rattle.ct_log.specs.Reading.{IsRead, log_bytes};
 ghost use Rattle.ct_recover.specs.Opening.{IsBad};
 ghost use Rattle.ct_tool.specs.Ends.{status_of};
-ghost use Rattle.ct_tool.specs.Runs.{RanSession, RanNone, IsOver, StaysKept, IsExecCause, HasRunCause};
+ghost use Rattle.ct_tool.specs.Causes.{IsExecCause, HasRunCause};
+ghost use Rattle.ct_tool.specs.Runs.{RanSession, RanNone, IsOver, KeepsStore};
+ghost use Rattle.ct_tool.specs.Talking.{input_of, output_of};
+ghost use Rattle.ct_yard.specs.Telling.{telling};
 
 use crate::ended::{Cause, Ended, open_cause};
 use crate::session::{Room, run_session};
@@ -28,13 +28,13 @@ pub(crate) fn exec<P: Disk, L: Disk, I: Source, O: Sink>(
 ) -> Ended<P, L>
     ensures status { result.status ≡ status_of result.cause }
     ensures kind { IsExecCause result.cause }
-    ensures run { RanSession L.tells L.faults L.content L.may_leave L.left_since result.pages log result.log result.cause result.front (I.taken input.old) (I.taken input.new) (O.written out.old) (O.written out.new)
-        ⊎ (RanNone result.cause result.front (I.count input.old) (I.count input.new) (I.taken input.old) (I.taken input.new) × Keeps (O.written out.old) (O.written out.new)
+    ensures run { RanSession (telling L.tells L.faults L.content L.may_leave L.left_since) result.pages log result.log result.cause result.front
+        (input_of I.taken I.left I.count I.faults input.old) (input_of I.taken I.left I.count I.faults input.new) (output_of O.written O.faults out.old) (output_of O.written O.faults out.new)
+        ⊎ (RanNone result.cause result.front (input_of I.taken I.left I.count I.faults input.old) (input_of I.taken I.left I.count I.faults input.new) × Keeps (O.written out.old) (O.written out.new)
         × (IsTrue L.tells → IsRead L.content L.may_leave L.left_since log result.log)) }
     ensures pages { IsTrue P.tells → IsRead P.content P.may_leave P.left_since pages result.pages }
     // A store that was kept stays so: a stop at the end leaves a prefix of the run's history with each acknowledged transaction.
-    ensures kept { IsTrue P.tells → IsTrue L.tells → (head : Head) (front : List ℕ) (history : History) (least : ℕ) → Founds head front history → history.base_number ≤ least
-        → Kept (P.may_leave pages) (L.may_leave log) front history least → StaysKept (P.may_leave result.pages) (L.may_leave result.log) front history least }
+    ensures kept { IsTrue P.tells → IsTrue L.tells → KeepsStore (P.may_leave pages) (L.may_leave log) (P.may_leave result.pages) (L.may_leave result.log) }
     ensures undone { IsTrue L.tells → result.cause ≡ Cause.Undone → has_open_header (L.content log) ≡ false }
     ensures bad { IsTrue L.tells → (place : ℕ) → result.cause ≡ Cause.BadLog place → IsBad (log_bytes (L.content log)) place }
     ensures cause { HasRunCause result.cause (P.faults pages) (P.faults result.pages) (L.faults log) (L.faults result.log) (I.faults input.old) (I.faults input.new) (O.faults out.old) (O.faults out.new) }

@@ -2,16 +2,18 @@
 //! `run_tool` carries the promise of the whole.
 #![tactic(auto)]
 
-mod block;
 mod check;
 mod create;
 mod ended;
 mod exec;
 mod input;
+mod laws;
 mod run;
 mod session;
+mod talk;
 #[cfg(test)]
 mod tests;
 
 pub use ended::{Cause, Ended};
+pub use laws::runs_keep;
 pub use run::run_tool;

@@ -3,17 +3,18 @@
 ghost use Rattle.std.specs.Prelude.{◌≡◌, ◌≢◌, ◌⊎◌, ◌<◌, ◌≤◌, ◌+◌, ◌^◌, ◌∷◌, [], ℕ, List, Some, None, true, false, map, codes, IsTrue, string_bytes};
 ghost use Rattle.std.specs.Io.KnownBytes.{Keeps};
 ghost use Rattle.ct_disk.specs.Disk.{AllImages};
-ghost use Rattle.ct_definitions.specs.Histories.{History};
 ghost use Rattle.ct_log.specs.Heads.{has_open_header};
-ghost use Rattle.ct_log.specs.declared.head.Head.{Head};
-ghost use Rattle.ct_yard.specs.Kept.{Founds, Kept};
+ghost use Rattle.ct_yard.specs.Telling.{telling};
 ghost use Rattle.ct_log.specs.Reading.{IsRead, log_bytes};
-ghost use Rattle.ct_recover.specs.Creating.{IsClosedOrWhole};
+ghost use Rattle.ct_recover.specs.Creating.{IsSyncedOnce, IsNoneOrMade};
+ghost use Rattle.ct_yard.specs.Kept.{empty_directory};
 ghost use Rattle.ct_recover.specs.Opening.{IsBad};
 ghost use Rattle.ct_words.specs.Commands.{Asks, AskCreate, is_id};
 ghost use Rattle.ct_words.specs.declared.commands.Command.TheVariants.{Unbuilt as Other};
 ghost use Rattle.ct_tool.specs.Ends.{status_of};
-ghost use Rattle.ct_tool.specs.Runs.{RanSession, RanNone, IsOver, StaysKept, Checked, IsMade, MadeBy, PutsOrKeeps, IsCreateCause, IsOpenCause, IsWordCause, HasRunCause};
+ghost use Rattle.ct_tool.specs.Causes.{MadeBy, PutsOrKeeps, IsCreateCause, IsOpenCause, IsWordCause, HasRunCause};
+ghost use Rattle.ct_tool.specs.Runs.{RanSession, RanNone, IsOver, KeepsStore, Checked, IsMade};
+ghost use Rattle.ct_tool.specs.Talking.{input_of, output_of};
 
 use crate::check::check;
 use crate::create::create;
@@ -38,27 +39,33 @@ pub fn run_tool<P: Disk, L: Disk, I: Source, O: Sink>(
 
     // `exec`: one session ran, its transcript is what was written, and each acknowledged transaction is kept at each moment. Or none did.
     ensures exec { map string_bytes words.now ≡ codes "exec" ∷ [] →
-        RanSession L.tells L.faults L.content L.may_leave L.left_since result.pages log result.log result.cause result.front (I.taken input.old) (I.taken input.new) (O.written out.old) (O.written out.new)
-        ⊎ (RanNone result.cause result.front (I.count input.old) (I.count input.new) (I.taken input.old) (I.taken input.new) × Keeps (O.written out.old) (O.written out.new)
+        RanSession (telling L.tells L.faults L.content L.may_leave L.left_since) result.pages log result.log result.cause result.front
+        (input_of I.taken I.left I.count I.faults input.old) (input_of I.taken I.left I.count I.faults input.new) (output_of O.written O.faults out.old) (output_of O.written O.faults out.new)
+        ⊎ (RanNone result.cause result.front (input_of I.taken I.left I.count I.faults input.old) (input_of I.taken I.left I.count I.faults input.new) × Keeps (O.written out.old) (O.written out.new)
         × (IsTrue L.tells → IsRead L.content L.may_leave L.left_since log result.log)) }
     // A store that was kept at the start is kept at the end, by whatever was acknowledged.
-    ensures exec_kept { map string_bytes words.now ≡ codes "exec" ∷ [] → IsTrue P.tells → IsTrue L.tells → (head : Head) (front : List ℕ) (history : History) (least : ℕ) → Founds head front history → history.base_number ≤ least
-        → Kept (P.may_leave pages) (L.may_leave log) front history least → StaysKept (P.may_leave result.pages) (L.may_leave result.log) front history least }
+    ensures exec_kept { map string_bytes words.now ≡ codes "exec" ∷ [] → IsTrue P.tells → IsTrue L.tells → KeepsStore (P.may_leave pages) (L.may_leave log) (P.may_leave result.pages) (L.may_leave result.log) }
     ensures exec_pages { map string_bytes words.now ≡ codes "exec" ∷ [] → IsTrue P.tells → IsRead P.content P.may_leave P.left_since pages result.pages }
 
     // `create`: an empty store was made, and then each image that a crash may leave is this store.
     ensures create { (verb id : List ℕ) → map string_bytes words.now ≡ verb ∷ id ∷ [] → AskCreate (map string_bytes words.now) → MadeBy result.cause →
-        IsMade P.tells P.content P.may_leave L.tells L.content L.may_leave id result.pages result.log }
+        IsMade (telling P.tells P.faults P.content P.may_leave P.left_since) (telling L.tells L.faults L.content L.may_leave L.left_since) id result.pages result.log }
     ensures create_ends { AskCreate (map string_bytes words.now) → IsCreateCause result.cause }
+    // On the way the log is only read until the page device has its directory for good. From the end of the log's first sync on
+    // a crash leaves no store or the one that is made: of the log at each moment since, of both devices at the end.
+    ensures create_order { AskCreate (map string_bytes words.now) → IsTrue P.tells → IsTrue L.tells →
+        AllImages (λ p. p ≡ empty_directory) (P.may_leave result.pages) ⊎ IsRead L.content L.may_leave L.left_since log result.log }
     ensures create_left { (verb id : List ℕ) → map string_bytes words.now ≡ verb ∷ id ∷ [] → AskCreate (map string_bytes words.now) → IsTrue L.tells → L.calls log + 8 < L.calls result.log
-        → AllImages (IsClosedOrWhole id) (L.may_leave result.log) }
+        → IsSyncedOnce (telling L.tells L.faults L.content L.may_leave L.left_since) id result.log }
+    ensures create_pairs { (verb id : List ℕ) → map string_bytes words.now ≡ verb ∷ id ∷ [] → AskCreate (map string_bytes words.now) → IsTrue P.tells → IsTrue L.tells → L.calls log + 8 < L.calls result.log
+        → (p l : List ℕ) → P.may_leave result.pages p → L.may_leave result.log l → IsNoneOrMade id p l }
     ensures create_kept { AskCreate (map string_bytes words.now) → IsTrue L.tells → has_open_header (L.content log) ≡ true →
         (result.cause ≢ Cause.Done) × (result.cause ≢ Cause.Sink) × (result.pages ≡ pages) × IsRead L.content L.may_leave L.left_since log result.log }
     ensures create_put { AskCreate (map string_bytes words.now) → (result.front ≡ 0) × PutsOrKeeps result.cause (O.written out.old) (O.written out.new) (codes "OK 0\n") }
 
     // `check`: the store was opened and counted, and nothing changed.
     ensures check { map string_bytes words.now ≡ codes "check" ∷ [] →
-        Checked L.tells L.faults L.content L.may_leave result.pages log result.log result.cause result.front (O.written out.old) (O.written out.new)
+        Checked (telling L.tells L.faults L.content L.may_leave L.left_since) result.pages log result.log result.cause result.front (O.written out.old) (O.written out.new)
         ⊎ (IsOpenCause result.cause × (result.front ≡ 0) × Keeps (O.written out.old) (O.written out.new)) }
     ensures check_kept { map string_bytes words.now ≡ codes "check" ∷ [] →
         (IsTrue P.tells → IsRead P.content P.may_leave P.left_since pages result.pages) × (IsTrue L.tells → IsRead L.content L.may_leave L.left_since log result.log) }

@@ -22,6 +22,7 @@ use Rattle.ct_log.specs.declared.log.Log.{Log}
 use Rattle.ct_log.specs.declared.stage.Stage.TheVariants.{Idle}
 use Rattle.ct_log.proofs.Flushes.{left_at, length-text}
 use Rattle.ct_log.proofs.Steps.{length-open_chunk}
+use Rattle.ct_yard.specs.Telling.{Telling, told_where}
 use Rattle.ct_yard.specs.declared.yard.CommitFault.{CommitFault}
 use Rattle.ct_yard.specs.declared.yard.CommitFault.TheVariants.{Memory, Halted}
 use Rattle.ct_yard.specs.declared.yard.Yard.{Yard}
@@ -32,9 +33,9 @@ use Rattle.ct_yard.specs.Yards.{StandsFor, KeptThrough}
 use Rattle.ct_yard.proofs.LogTexts.{text_more, whole_held, either_held}
 
 -- what is written where the log tells its content is so where the yard is founded
-pub narrower : {P L : Type 0} (tells founded : Bool) (count_of : L → ℕ) (content : L → List ℕ) (may_leave : L → List ℕ → Type 0) (left_since : L → L → List ℕ → Type 0) (group : List ℕ) (result : Result Unit CommitFault) (old new : Yard P L)
-    → (IsTrue founded → IsTrue tells) → Writes tells count_of content may_leave left_since group result old new → Writes founded count_of content may_leave left_since group result old new
-narrower tells founded count_of content may_leave left_since group (Ok _) old new told is = record {
+pub narrower : {P L : Type 0} (founded : Bool) (disk : Telling L) (group : List ℕ) (result : Result Unit CommitFault) (old new : Yard P L)
+    → (IsTrue founded → IsTrue disk.tells) → Writes disk group result old new → Writes (told_where founded disk) group result old new
+narrower founded disk group (Ok _) old new told is = record {
   pages = is.pages;
   state = is.state;
   halt = is.halt;
@@ -47,7 +48,7 @@ narrower tells founded count_of content may_leave left_since group (Ok _) old ne
   moments = λ here. is.moments (told here);
   faults = is.faults;
 }
-narrower tells founded count_of content may_leave left_since group (Err Memory) old new told is = record {
+narrower founded disk group (Err Memory) old new told is = record {
   pages = is.pages;
   state = is.state;
   halt = is.halt;
@@ -59,7 +60,7 @@ narrower tells founded count_of content may_leave left_since group (Err Memory) 
   log = λ here. is.log (told here);
   text = is.text;
 }
-narrower tells founded count_of content may_leave left_since group (Err (Halted cause)) old new told is = record {
+narrower founded disk group (Err (Halted cause)) old new told is = record {
   pages = is.pages;
   halt = is.halt;
   front = is.front;
@@ -93,12 +94,18 @@ room_by_numbers number n flow rest short =
 free_cause : (cause : HaltCause) (before now : ℕ) → cause ≡ NoRoom → before ≤ now → HasHaltCause cause before now
 free_cause cause before now is later = subst (λ (why : HaltCause). HasHaltCause why before now) (sym is) later
 
+-- a history with one transaction more is another one
+is_longer : (history : History) (change : Change) → with_change history change ≡ history → ⊥
+is_longer history change same =
+    let lengths : length (history.transactions ++ next_transaction history change ∷ []) ≡ length history.transactions = ap (λ (h : History). length h.transactions) same in
+    omega (arith, lengths, length-append history.transactions (next_transaction history change ∷ []))
+
 -- a yard whose log is at rest and holds a history stands for it
-pub assembled : {P L : Type 0} (tells : Bool) (count_of : L → ℕ) (content : L → List ℕ) (may_leave : L → List ℕ → Type 0) (new : Yard P L) (front : List ℕ) (history : History)
+pub assembled : {P L : Type 0} (founded : Bool) (disk : Telling L) (new : Yard P L) (front : List ℕ) (history : History)
     → new.halt ≡ None → IsAtRest new.log.flow → IsHistory history → new.front ≡ last_number history → new.state ≡ after history
-    → (IsTrue tells → IsLog content may_leave new.log) → (IsTrue tells → IsTextOf front history.transactions (durable_text content new.log)) → (IsTrue tells → new.log.flow.end < 2 ^ 62)
-    → StandsFor tells count_of content may_leave front (opened_machine history (count_of new.log.device) new.log.flow.end new.log.flow.next) new
-assembled tells count_of content may_leave new front history runs rest defined numbered state log text small = record {
+    → (IsTrue founded → IsLog disk.content disk.may_leave new.log) → (IsTrue founded → IsTextOf front history.transactions (durable_text disk.content new.log)) → (IsTrue founded → new.log.flow.end < 2 ^ 62)
+    → StandsFor founded disk front (opened_machine history (disk.faults new.log.device) new.log.flow.end new.log.flow.next) new
+assembled founded disk new front history runs rest defined numbered state log text small = record {
   halt = runs;
   number = numbered;
   state = λ _. state;
@@ -109,13 +116,13 @@ assembled tells count_of content may_leave new front history runs rest defined n
   acknowledged = λ _. refl;
   log = log;
   text = λ told _. text told;
-  left = λ told c now. whole_held front history (durable_text content new.log) c (last_number history) (omega arith) (text told) (omega (arith, small told, length-text content may_leave new.log (log told))) (left_at content may_leave new.log Idle (log told) rest.stage c now);
+  left = λ told c now. whole_held front history (durable_text disk.content new.log) c (last_number history) (omega arith) (text told) (omega (arith, small told, length-text disk.content disk.may_leave new.log (log told))) (left_at disk.content disk.may_leave new.log Idle (log told) rest.stage c now);
 }
 
-module _ {P L : Type 0} (tells : Bool) (count_of : L → ℕ) (content : L → List ℕ) (may_leave : L → List ℕ → Type 0) (left_since : L → L → List ℕ → Type 0)
+module _ {P L : Type 0} (founded : Bool) (disk : Telling L)
     (old : Yard P L) (change : Change) (t : Transaction) (group front : List ℕ) (machine : Machine)
     (running : old.halt ≡ None) (made : t ≡ of_one (old.front + 1) change) (text : group ≡ commit_text t)
-    (stands : StandsFor tells count_of content may_leave front machine old) where
+    (stands : StandsFor founded disk front machine old) where
   is_running : machine.halt ≡ None
   is_running = sym stands.halt ∙ running
 
@@ -137,8 +144,8 @@ module _ {P L : Type 0} (tells : Bool) (count_of : L → ℕ) (content : L → L
 
   -- there was no room, and the store halts with nothing else changed
   pub full : (new : Yard P L) → has_room_for old (length group) ≡ false → new.halt ≡ Some Limit → new.log ≡ old.log → new.front ≡ old.front
-      → (then : Machine) × Commits machine change (Err (Halted Limit)) then × StandsFor tells count_of content may_leave front then new
-      × KeptThrough tells left_since front machine old.log.device then new.log.device
+      → (then : Machine) × Commits machine change (Err (Halted Limit)) then × StandsFor founded disk front then new
+      × KeptThrough founded disk front machine old.log.device then new.log.device
   full new none halted same_log same_front = (
     record { history = machine.history; acknowledged = machine.acknowledged; halt = Some Limit; faults = machine.faults; end = machine.end; next = machine.next },
     record { room = sym same_room ∙ none; history = refl; acknowledged = refl; halt = refl; cause = omega arith },
@@ -146,16 +153,16 @@ module _ {P L : Type 0} (tells : Bool) (count_of : L → ℕ) (content : L → L
       halt = halted;
       number = same_front ∙ stands.number;
       state = λ runs. let no : ⊥ = cc runs in absurd no;
-      faults = ap (λ (l : Log L). count_of l.device) same_log ∙ stands.faults;
+      faults = ap (λ (l : Log L). disk.faults l.device) same_log ∙ stands.faults;
       end = ap (λ (l : Log L). l.flow.end) same_log ∙ stands.end;
       next = λ runs. let no : ⊥ = cc runs in absurd no;
       history = stands.history;
       acknowledged = λ runs. let no : ⊥ = cc runs in absurd no;
-      log = λ told. subst (λ (l : Log L). IsLog content may_leave l) (sym same_log) (stands.log told);
+      log = λ told. subst (λ (l : Log L). IsLog disk.content disk.may_leave l) (sym same_log) (stands.log told);
       text = λ told runs. let no : ⊥ = cc runs in absurd no;
-      left = λ told. subst (λ (l : Log L). (c : List ℕ) → may_leave l.device c → HoldsPrefix front machine.history machine.acknowledged c) (sym same_log) (stands.left told);
+      left = λ told. subst (λ (l : Log L). (c : List ℕ) → disk.may_leave l.device c → HoldsPrefix front machine.history machine.acknowledged c) (sym same_log) (stands.left told);
     },
-    inl (ap (λ (l : Log L). l.device) same_log),
+    record { idle = λ _. ap (λ (l : Log L). l.device) same_log; moments = inl (ap (λ (l : Log L). l.device) same_log) },
   )
 
   module _ (mid : Yard P L) (fits : t.number ≤ 2 ^ 63 → FitsTransaction t) (short : length group ≤ 8000) (allowed : allows old.state change ≡ true)
@@ -185,8 +192,8 @@ module _ {P L : Type 0} (tells : Bool) (count_of : L → ℕ) (content : L → L
         last_of true false c h = let none : ⊥ = cc h in absurd none
         last_of false b c h = let none : ⊥ = cc h in absurd none
 
-    longer_below : IsTrue tells → length (durable_text content old.log ++ open_chunk group) < 2 ^ 62
-    longer_below told = omega (arith, end_below, length-text content may_leave old.log (stands.log told), length-append (durable_text content old.log) (open_chunk group), length-open_chunk group)
+    longer_below : IsTrue founded → length (durable_text disk.content old.log ++ open_chunk group) < 2 ^ 62
+    longer_below told = omega (arith, end_below, length-text disk.content disk.may_leave old.log (stands.log told), length-append (durable_text disk.content old.log) (open_chunk group), length-open_chunk group)
 
     fits_here : FitsTransaction next
     fits_here =
@@ -207,40 +214,40 @@ module _ {P L : Type 0} (tells : Bool) (count_of : L → ℕ) (content : L → L
     known = stands.acknowledged is_running
 
     -- the text with the group is that of the longer history
-    longer : IsTrue tells → IsTextOf front here.transactions (durable_text content old.log ++ open_chunk group)
-    longer told = subst (λ (g : List ℕ). IsTextOf front here.transactions (durable_text content old.log ++ open_chunk g)) (sym same_group)
-        (text_more front machine.history.transactions next (durable_text content old.log) fits_here short_here (stands.text told is_running))
+    longer : IsTrue founded → IsTextOf front here.transactions (durable_text disk.content old.log ++ open_chunk group)
+    longer told = subst (λ (g : List ℕ). IsTextOf front here.transactions (durable_text disk.content old.log ++ open_chunk g)) (sym same_group)
+        (text_more front machine.history.transactions next (durable_text disk.content old.log) fits_here short_here (stands.text told is_running))
 
     -- whatever stands for the text or the longer one is kept
-    either : IsTrue tells → (c : List ℕ) → Stands (durable_text content old.log) group c → HoldsPrefix front here machine.acknowledged c
-    either told c is = either_held front machine.history change (durable_text content old.log) group c machine.acknowledged (omega (arith, known)) (stands.text told is_running) (longer told) (longer_below told) is
+    either : IsTrue founded → (c : List ℕ) → Stands (durable_text disk.content old.log) group c → HoldsPrefix front here machine.acknowledged c
+    either told c is = either_held front machine.history change (durable_text disk.content old.log) group c machine.acknowledged (omega (arith, known)) (stands.text told is_running) (longer told) (longer_below told) is
 
-    through : (IsTrue tells → IsLog content may_leave old.log → LeavesOnly left_since (Stands (durable_text content old.log) group) old.log.device mid.log.device)
-        → IsTrue tells → LeavesOnly left_since (HoldsPrefix front here machine.acknowledged) old.log.device mid.log.device
-    through moments told = LeavesOnly-wider left_since (Stands (durable_text content old.log) group) (HoldsPrefix front here machine.acknowledged) old.log.device mid.log.device (either told) (moments told (stands.log told))
+    through : (IsTrue founded → IsLog disk.content disk.may_leave old.log → LeavesOnly disk.left_since (Stands (durable_text disk.content old.log) group) old.log.device mid.log.device)
+        → IsTrue founded → LeavesOnly disk.left_since (HoldsPrefix front here machine.acknowledged) old.log.device mid.log.device
+    through moments told = LeavesOnly-wider disk.left_since (Stands (durable_text disk.content old.log) group) (HoldsPrefix front here machine.acknowledged) old.log.device mid.log.device (either told) (moments told (stands.log told))
 
     -- the group is in the log, and a crash leaves it there
-    written_text : IsWritten tells count_of content may_leave left_since group old mid → IsTrue tells → IsTextOf front here.transactions (durable_text content mid.log)
+    written_text : IsWritten (told_where founded disk) group old mid → IsTrue founded → IsTextOf front here.transactions (durable_text disk.content mid.log)
     written_text written told = subst (λ (l : List ℕ). IsTextOf front here.transactions l) (sym (written.text told (stands.log told))) (longer told)
 
-    written_left : IsWritten tells count_of content may_leave left_since group old mid → (least : ℕ) → least ≤ last_number here → IsTrue tells → (c : List ℕ) → may_leave mid.log.device c → HoldsPrefix front here least c
-    written_left written least from told c now = whole_held front here (durable_text content mid.log) c least from (written_text written told) (omega (arith, end_below, written.end, length-text content may_leave mid.log (written.log told (stands.log told))))
-        (left_at content may_leave mid.log Idle (written.log told (stands.log told)) (written.at_rest).stage c now)
+    written_left : IsWritten (told_where founded disk) group old mid → (least : ℕ) → least ≤ last_number here → IsTrue founded → (c : List ℕ) → disk.may_leave mid.log.device c → HoldsPrefix front here least c
+    written_left written least from told c now = whole_held front here (durable_text disk.content mid.log) c least from (written_text written told) (omega (arith, end_below, written.end, length-text disk.content disk.may_leave mid.log (written.log told (stands.log told))))
+        (left_at disk.content disk.may_leave mid.log Idle (written.log told (stands.log told)) (written.at_rest).stage c now)
 
     acknowledged_within : machine.acknowledged ≤ last_number here
     acknowledged_within = omega (arith, known, last_number-push machine.history next)
 
-    done : (number : ℕ) (new : Yard P L) → IsWritten tells count_of content may_leave left_since group old mid → new.log ≡ mid.log → new.front ≡ mid.front → IsPerformed t number mid new
-        → (then : Machine) × Commits machine change (Ok number) then × StandsFor tells count_of content may_leave front then new
-        × KeptThrough tells left_since front machine old.log.device then new.log.device
+    done : (number : ℕ) (new : Yard P L) → IsWritten (told_where founded disk) group old mid → new.log ≡ mid.log → new.front ≡ mid.front → IsPerformed t number mid new
+        → (then : Machine) × Commits machine change (Ok number) then × StandsFor founded disk front then new
+        × KeptThrough founded disk front machine old.log.device then new.log.device
     done number new written same_log same_front performed =
         let numbered : new.front ≡ last_number here = same_front ∙ written.front ∙ one_more in
         let state : new.state ≡ after here =
         performed.state
         ∙ ap₂ (λ (s : State) (one : Transaction). after_changes s one.changes) (written.state ∙ stands.state is_running) same_transaction
         ∙ sym (after-push machine.history next) in
-        let count : count_of new.log.device ≡ count_of mid.log.device = ap (λ (l : Log L). count_of l.device) same_log in (
-          record { history = here; acknowledged = last_number here; halt = None; faults = count_of new.log.device; end = machine.end + 5 + group_size machine change; next = machine.next + 1 },
+        let count : disk.faults new.log.device ≡ disk.faults mid.log.device = ap (λ (l : Log L). disk.faults l.device) same_log in (
+          record { history = here; acknowledged = last_number here; halt = None; faults = disk.faults new.log.device; end = machine.end + 5 + group_size machine change; next = machine.next + 1 },
           (performed.answer ∙ numbered, record { room = has_room_here; history = refl; acknowledged = refl; running = refl; faults = omega (arith, written.faults, stands.faults, count); end = refl; next = refl }),
           record {
             halt = performed.halt ∙ written.halt;
@@ -251,20 +258,23 @@ module _ {P L : Type 0} (tells : Bool) (count_of : L → ℕ) (content : L → L
             next = λ _. ap (λ (l : Log L). l.flow.next) same_log ∙ written.next ∙ ap (λ n. n + 1) (stands.next is_running);
             history = defined;
             acknowledged = λ _. refl;
-            log = λ told. subst (λ (l : Log L). IsLog content may_leave l) (sym same_log) (written.log told (stands.log told));
-            text = λ told _. subst (λ (l : Log L). IsTextOf front here.transactions (durable_text content l)) (sym same_log) (written_text written told);
-            left = λ told. subst (λ (l : Log L). (c : List ℕ) → may_leave l.device c → HoldsPrefix front here (last_number here) c) (sym same_log) (written_left written (last_number here) (omega arith) told);
+            log = λ told. subst (λ (l : Log L). IsLog disk.content disk.may_leave l) (sym same_log) (written.log told (stands.log told));
+            text = λ told _. subst (λ (l : Log L). IsTextOf front here.transactions (durable_text disk.content l)) (sym same_log) (written_text written told);
+            left = λ told. subst (λ (l : Log L). (c : List ℕ) → disk.may_leave l.device c → HoldsPrefix front here (last_number here) c) (sym same_log) (written_left written (last_number here) (omega arith) told);
           },
-          inr (λ told. subst (λ (l : Log L). LeavesOnly left_since (HoldsPrefix front here machine.acknowledged) old.log.device l.device) (sym same_log) (through written.moments told)),
+          record {
+            idle = λ same. absurd (is_longer machine.history change same);
+            moments = inr (λ told. subst (λ (l : Log L). LeavesOnly disk.left_since (HoldsPrefix front here machine.acknowledged) old.log.device l.device) (sym same_log) (through written.moments told));
+          },
         )
 
-    wanting : (cause : HaltCause) (new : Yard P L) → IsWritten tells count_of content may_leave left_since group old mid → new.log ≡ mid.log → new.front ≡ mid.front → cause ≡ NoRoom → new.halt ≡ Some NoRoom
-        → (then : Machine) × Commits machine change (Err (Halted cause)) then × StandsFor tells count_of content may_leave front then new
-        × KeptThrough tells left_since front machine old.log.device then new.log.device
+    wanting : (cause : HaltCause) (new : Yard P L) → IsWritten (told_where founded disk) group old mid → new.log ≡ mid.log → new.front ≡ mid.front → cause ≡ NoRoom → new.halt ≡ Some NoRoom
+        → (then : Machine) × Commits machine change (Err (Halted cause)) then × StandsFor founded disk front then new
+        × KeptThrough founded disk front machine old.log.device then new.log.device
     wanting cause new written same_log same_front is halted =
-        subst (λ (why : HaltCause). (then : Machine) × Commits machine change (Err (Halted why)) then × StandsFor tells count_of content may_leave front then new × KeptThrough tells left_since front machine old.log.device then new.log.device) (sym is)
-        (let count : count_of new.log.device ≡ count_of mid.log.device = ap (λ (l : Log L). count_of l.device) same_log in (
-          record { history = here; acknowledged = machine.acknowledged; halt = Some NoRoom; faults = count_of new.log.device; end = machine.end + 5 + group_size machine change; next = machine.next },
+        subst (λ (why : HaltCause). (then : Machine) × Commits machine change (Err (Halted why)) then × StandsFor founded disk front then new × KeptThrough founded disk front machine old.log.device then new.log.device) (sym is)
+        (let count : disk.faults new.log.device ≡ disk.faults mid.log.device = ap (λ (l : Log L). disk.faults l.device) same_log in (
+          record { history = here; acknowledged = machine.acknowledged; halt = Some NoRoom; faults = disk.faults new.log.device; end = machine.end + 5 + group_size machine change; next = machine.next },
           record { room = has_room_here; history = refl; acknowledged = refl; halt = refl; cause = omega (arith, written.faults, stands.faults, count) },
           record {
             halt = halted;
@@ -275,19 +285,22 @@ module _ {P L : Type 0} (tells : Bool) (count_of : L → ℕ) (content : L → L
             next = λ runs. let no : ⊥ = cc runs in absurd no;
             history = defined;
             acknowledged = λ runs. let no : ⊥ = cc runs in absurd no;
-            log = λ told. subst (λ (l : Log L). IsLog content may_leave l) (sym same_log) (written.log told (stands.log told));
+            log = λ told. subst (λ (l : Log L). IsLog disk.content disk.may_leave l) (sym same_log) (written.log told (stands.log told));
             text = λ told runs. let no : ⊥ = cc runs in absurd no;
-            left = λ told. subst (λ (l : Log L). (c : List ℕ) → may_leave l.device c → HoldsPrefix front here machine.acknowledged c) (sym same_log) (written_left written machine.acknowledged acknowledged_within told);
+            left = λ told. subst (λ (l : Log L). (c : List ℕ) → disk.may_leave l.device c → HoldsPrefix front here machine.acknowledged c) (sym same_log) (written_left written machine.acknowledged acknowledged_within told);
           },
-          inr (λ told. subst (λ (l : Log L). LeavesOnly left_since (HoldsPrefix front here machine.acknowledged) old.log.device l.device) (sym same_log) (through written.moments told)),
+          record {
+            idle = λ same. absurd (is_longer machine.history change same);
+            moments = inr (λ told. subst (λ (l : Log L). LeavesOnly disk.left_since (HoldsPrefix front here machine.acknowledged) old.log.device l.device) (sym same_log) (through written.moments told));
+          },
         ))
 
-    stopped : (cause : HaltCause) → IsStopped tells count_of content may_leave left_since group cause old mid
-        → (then : Machine) × Commits machine change (Err (Halted cause)) then × StandsFor tells count_of content may_leave front then mid
-        × KeptThrough tells left_since front machine old.log.device then mid.log.device
+    stopped : (cause : HaltCause) → IsStopped (told_where founded disk) group cause old mid
+        → (then : Machine) × Commits machine change (Err (Halted cause)) then × StandsFor founded disk front then mid
+        × KeptThrough founded disk front machine old.log.device then mid.log.device
     stopped cause stop = (
-      record { history = halted_history cause machine.history change; acknowledged = machine.acknowledged; halt = Some cause; faults = count_of mid.log.device; end = machine.end; next = machine.next },
-      record { room = by_kind cause stop.kind; history = refl; acknowledged = refl; halt = refl; cause = subst (λ n. HasHaltCause cause n (count_of mid.log.device)) stands.faults stop.why },
+      record { history = halted_history cause machine.history change; acknowledged = machine.acknowledged; halt = Some cause; faults = disk.faults mid.log.device; end = machine.end; next = machine.next },
+      record { room = by_kind cause stop.kind; history = refl; acknowledged = refl; halt = refl; cause = subst (λ n. HasHaltCause cause n (disk.faults mid.log.device)) stands.faults stop.why },
       record {
         halt = stop.halt;
         number = stop.front ∙ one_more ∙ ap (λ (h : History). last_number h) (sym longer_by_kind);
@@ -301,7 +314,10 @@ module _ {P L : Type 0} (tells : Bool) (count_of : L → ℕ) (content : L → L
         text = λ told runs. let no : ⊥ = cc runs in absurd no;
         left = λ told c now. subst (λ (h : History). HoldsPrefix front h machine.acknowledged c) (sym longer_by_kind) (either told c (stop.stands told (stands.log told) c now));
       },
-      inr (λ told. subst (λ (h : History). LeavesOnly left_since (HoldsPrefix front h machine.acknowledged) old.log.device mid.log.device) (sym longer_by_kind) (through stop.moments told)),
+      record {
+        idle = λ same. absurd (is_longer machine.history change (sym longer_by_kind ∙ same));
+        moments = inr (λ told. subst (λ (h : History). LeavesOnly disk.left_since (HoldsPrefix front h machine.acknowledged) old.log.device mid.log.device) (sym longer_by_kind) (through stop.moments told));
+      },
     )
       where
         by_kind : (why : HaltCause) → (why ≡ Write) ⊎ (why ≡ NoRoom) → FitsRoom why (has_room machine change)
@@ -315,9 +331,9 @@ module _ {P L : Type 0} (tells : Bool) (count_of : L → ℕ) (content : L → L
         longer_by_kind : halted_history cause machine.history change ≡ here
         longer_by_kind = longer_by cause stop.kind
 
-    refused : IsRefused tells content may_leave old mid
-        → (then : Machine) × Commits machine change (Err Memory) then × StandsFor tells count_of content may_leave front then mid
-        × KeptThrough tells left_since front machine old.log.device then mid.log.device
+    refused : IsRefused (told_where founded disk) old mid
+        → (then : Machine) × Commits machine change (Err Memory) then × StandsFor founded disk front then mid
+        × KeptThrough founded disk front machine old.log.device then mid.log.device
     refused none = (
       machine,
       refl,
@@ -325,35 +341,35 @@ module _ {P L : Type 0} (tells : Bool) (count_of : L → ℕ) (content : L → L
         halt = none.halt ∙ sym is_running;
         number = none.front ∙ stands.number;
         state = λ runs. none.state ∙ stands.state runs;
-        faults = ap count_of none.device ∙ stands.faults;
+        faults = ap disk.faults none.device ∙ stands.faults;
         end = none.end ∙ stands.end;
         next = λ runs. none.next ∙ stands.next runs;
         history = stands.history;
         acknowledged = stands.acknowledged;
         log = λ told. none.log told (stands.log told);
         text = λ told runs. subst (λ (l : List ℕ). IsTextOf front machine.history.transactions l) (sym none.text) (stands.text told runs);
-        left = λ told. subst (λ (d : L). (c : List ℕ) → may_leave d c → HoldsPrefix front machine.history machine.acknowledged c) (sym none.device) (stands.left told);
+        left = λ told. subst (λ (d : L). (c : List ℕ) → disk.may_leave d c → HoldsPrefix front machine.history machine.acknowledged c) (sym none.device) (stands.left told);
       },
-      inl none.device,
+      record { idle = λ _. none.device; moments = inl none.device },
     )
 
     -- the group was not written, or not for good
-    pub failed : (result : Result ℕ CommitFault) (fault other : CommitFault) → result ≡ Err other → other ≡ fault → Writes tells count_of content may_leave left_since group (Err fault) old mid
-        → (then : Machine) × Commits machine change result then × StandsFor tells count_of content may_leave front then mid
-        × KeptThrough tells left_since front machine old.log.device then mid.log.device
+    pub failed : (result : Result ℕ CommitFault) (fault other : CommitFault) → result ≡ Err other → other ≡ fault → Writes (told_where founded disk) group (Err fault) old mid
+        → (then : Machine) × Commits machine change result then × StandsFor founded disk front then mid
+        × KeptThrough founded disk front machine old.log.device then mid.log.device
     failed result fault other is same writes =
-        subst (λ (r : Result ℕ CommitFault). (then : Machine) × Commits machine change r then × StandsFor tells count_of content may_leave front then mid × KeptThrough tells left_since front machine old.log.device then mid.log.device)
+        subst (λ (r : Result ℕ CommitFault). (then : Machine) × Commits machine change r then × StandsFor founded disk front then mid × KeptThrough founded disk front machine old.log.device then mid.log.device)
         (sym (is ∙ ap (λ (f : CommitFault). Err f) same)) (by fault writes)
       where
-        by : (fault : CommitFault) → Writes tells count_of content may_leave left_since group (Err fault) old mid
-            → (then : Machine) × Commits machine change (Err fault) then × StandsFor tells count_of content may_leave front then mid × KeptThrough tells left_since front machine old.log.device then mid.log.device
+        by : (fault : CommitFault) → Writes (told_where founded disk) group (Err fault) old mid
+            → (then : Machine) × Commits machine change (Err fault) then × StandsFor founded disk front then mid × KeptThrough founded disk front machine old.log.device then mid.log.device
         by Memory writes = refused writes
         by (Halted cause) writes = stopped cause writes
 
     -- it was, and the change is made or wants memory
-    pub performed : (result : Result ℕ CommitFault) (new : Yard P L) → IsWritten tells count_of content may_leave left_since group old mid → new.log ≡ mid.log → new.front ≡ mid.front → Performs t result mid new
-        → (then : Machine) × Commits machine change result then × StandsFor tells count_of content may_leave front then new
-        × KeptThrough tells left_since front machine old.log.device then new.log.device
+    pub performed : (result : Result ℕ CommitFault) (new : Yard P L) → IsWritten (told_where founded disk) group old mid → new.log ≡ mid.log → new.front ≡ mid.front → Performs t result mid new
+        → (then : Machine) × Commits machine change result then × StandsFor founded disk front then new
+        × KeptThrough founded disk front machine old.log.device then new.log.device
     performed (Ok number) new written same_log same_front performs = done number new written same_log same_front performs
     performed (Err Memory) new written same_log same_front performs = absurd performs
     performed (Err (Halted cause)) new written same_log same_front performs = wanting cause new written same_log same_front performs.0 performs.1

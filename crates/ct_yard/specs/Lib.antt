@@ -1,3 +1,4 @@
+pub mod Telling
 pub mod Flushing
 pub mod Kept
 pub mod LogTexts

@@ -16,6 +16,7 @@ use Rattle.ct_log.specs.declared.log.Log.{Log}
 use Rattle.ct_yard.specs.declared.yard.CommitFault.{CommitFault}
 use Rattle.ct_yard.specs.declared.yard.CommitFault.TheVariants.{Memory, Halted}
 use Rattle.ct_yard.specs.declared.yard.Yard.{Yard}
+use Rattle.ct_yard.specs.Telling.{Telling}
 use Rattle.ct_yard.specs.Machine.{HasHaltCause}
 
 -- a transaction of session 1 with one change
@@ -33,7 +34,7 @@ abbrev pub has_room_for : {P L : Type 0} → Yard P L → ℕ → Bool
 has_room_for yard n = nat_lt yard.front (2 ^ 63) && nat_lt yard.log.flow.next (2 ^ 63) && nat_lt (yard.log.flow.end + 5 + n) (2 ^ 62)
 
 -- the group is in the log
-pub record IsWritten {P L : Type 0} (tells : Bool) (count_of : L → ℕ) (content : L → List ℕ) (may_leave : L → List ℕ → Type 0) (left_since : L → L → List ℕ → Type 0) (group : List ℕ) (old new : Yard P L) : Type 0 where
+pub record IsWritten {P L : Type 0} (disk : Telling L) (group : List ℕ) (old new : Yard P L) : Type 0 where
   pub pages : new.pages ≡ old.pages
   pub state : new.state ≡ old.state
   pub halt : new.halt ≡ None
@@ -41,13 +42,13 @@ pub record IsWritten {P L : Type 0} (tells : Bool) (count_of : L → ℕ) (conte
   pub at_rest : IsAtRest new.log.flow
   pub end : new.log.flow.end ≡ old.log.flow.end + 5 + length group
   pub next : new.log.flow.next ≡ old.log.flow.next + 1
-  pub log : IsTrue tells → IsLog content may_leave old.log → IsLog content may_leave new.log
-  pub text : IsTrue tells → IsLog content may_leave old.log → durable_text content new.log ≡ durable_text content old.log ++ open_chunk group
-  pub moments : IsTrue tells → IsLog content may_leave old.log → LeavesOnly left_since (Stands (durable_text content old.log) group) old.log.device new.log.device
-  pub faults : count_of old.log.device ≤ count_of new.log.device
+  pub log : IsTrue disk.tells → IsLog disk.content disk.may_leave old.log → IsLog disk.content disk.may_leave new.log
+  pub text : IsTrue disk.tells → IsLog disk.content disk.may_leave old.log → durable_text disk.content new.log ≡ durable_text disk.content old.log ++ open_chunk group
+  pub moments : IsTrue disk.tells → IsLog disk.content disk.may_leave old.log → LeavesOnly disk.left_since (Stands (durable_text disk.content old.log) group) old.log.device new.log.device
+  pub faults : disk.faults old.log.device ≤ disk.faults new.log.device
 
 -- there was no memory for the group, and nothing has changed
-pub record IsRefused {P L : Type 0} (tells : Bool) (content : L → List ℕ) (may_leave : L → List ℕ → Type 0) (old new : Yard P L) : Type 0 where
+pub record IsRefused {P L : Type 0} (disk : Telling L) (old new : Yard P L) : Type 0 where
   pub pages : new.pages ≡ old.pages
   pub state : new.state ≡ old.state
   pub halt : new.halt ≡ None
@@ -56,26 +57,26 @@ pub record IsRefused {P L : Type 0} (tells : Bool) (content : L → List ℕ) (m
   pub at_rest : IsAtRest new.log.flow
   pub end : new.log.flow.end ≡ old.log.flow.end
   pub next : new.log.flow.next ≡ old.log.flow.next
-  pub log : IsTrue tells → IsLog content may_leave old.log → IsLog content may_leave new.log
-  pub text : durable_text content new.log ≡ durable_text content old.log
+  pub log : IsTrue disk.tells → IsLog disk.content disk.may_leave old.log → IsLog disk.content disk.may_leave new.log
+  pub text : durable_text disk.content new.log ≡ durable_text disk.content old.log
 
 -- the store halted before the group was in the log for good
-pub record IsStopped {P L : Type 0} (tells : Bool) (count_of : L → ℕ) (content : L → List ℕ) (may_leave : L → List ℕ → Type 0) (left_since : L → L → List ℕ → Type 0) (group : List ℕ) (cause : HaltCause) (old new : Yard P L) : Type 0 where
+pub record IsStopped {P L : Type 0} (disk : Telling L) (group : List ℕ) (cause : HaltCause) (old new : Yard P L) : Type 0 where
   pub pages : new.pages ≡ old.pages
   pub halt : new.halt ≡ Some cause
   pub front : new.front ≡ old.front + 1
   pub end : new.log.flow.end ≡ old.log.flow.end
   pub kind : (cause ≡ Write) ⊎ (cause ≡ NoRoom)
-  pub log : IsTrue tells → IsLog content may_leave old.log → IsLog content may_leave new.log
-  pub stands : IsTrue tells → IsLog content may_leave old.log → AllImages (Stands (durable_text content old.log) group) (may_leave new.log.device)
-  pub moments : IsTrue tells → IsLog content may_leave old.log → LeavesOnly left_since (Stands (durable_text content old.log) group) old.log.device new.log.device
-  pub why : HasHaltCause cause (count_of old.log.device) (count_of new.log.device)
+  pub log : IsTrue disk.tells → IsLog disk.content disk.may_leave old.log → IsLog disk.content disk.may_leave new.log
+  pub stands : IsTrue disk.tells → IsLog disk.content disk.may_leave old.log → AllImages (Stands (durable_text disk.content old.log) group) (disk.may_leave new.log.device)
+  pub moments : IsTrue disk.tells → IsLog disk.content disk.may_leave old.log → LeavesOnly disk.left_since (Stands (durable_text disk.content old.log) group) old.log.device new.log.device
+  pub why : HasHaltCause cause (disk.faults old.log.device) (disk.faults new.log.device)
 
 -- a group is written, by the answer
-abbrev pub Writes : {P L : Type 0} → Bool → (L → ℕ) → (L → List ℕ) → (L → List ℕ → Type 0) → (L → L → List ℕ → Type 0) → List ℕ → Result Unit CommitFault → Yard P L → Yard P L → Type 0
-Writes tells count_of content may_leave left_since group (Ok _) old new = IsWritten tells count_of content may_leave left_since group old new
-Writes tells count_of content may_leave left_since group (Err Memory) old new = IsRefused tells content may_leave old new
-Writes tells count_of content may_leave left_since group (Err (Halted cause)) old new = IsStopped tells count_of content may_leave left_since group cause old new
+abbrev pub Writes : {P L : Type 0} → Telling L → List ℕ → Result Unit CommitFault → Yard P L → Yard P L → Type 0
+Writes disk group (Ok _) old new = IsWritten disk group old new
+Writes disk group (Err Memory) old new = IsRefused disk old new
+Writes disk group (Err (Halted cause)) old new = IsStopped disk group cause old new
 
 -- the state has the transaction
 pub record IsPerformed {P L : Type 0} (t : Transaction) (number : ℕ) (old new : Yard P L) : Type 0 where

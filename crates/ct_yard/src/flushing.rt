@@ -2,6 +2,7 @@
 
 ghost use Rattle.std.specs.Prelude.{◌≡◌, ◌<◌, ◌+◌, []};
 ghost use Rattle.ct_log.specs.declared.stage.Stage.TheVariants.{Idle};
+ghost use Rattle.ct_yard.specs.Telling.{telling};
 ghost use Rattle.ct_yard.specs.Flushing.{Flushes, halt_cause};
 
 use ct_disk::{Disk, DiskError, HaltCause};
@@ -13,7 +14,7 @@ pub(crate) fn flush<L: Disk>(log: &mut Log<L>) -> Result<(), DiskError>
     requires idle { log.old.flow.stage ≡ Idle }
     requires none { log.old.flow.taken ≡ [] }
     requires unflushed { log.old.flow.durable + 1 < log.old.flow.next }
-    ensures { Flushes L.tells L.faults L.content L.may_leave L.left_since result log.old log.new }
+    ensures { Flushes (telling L.tells L.faults L.content L.may_leave L.left_since) result log.old log.new }
 {
     log.flush_step()?;
     log.flush_step()?;

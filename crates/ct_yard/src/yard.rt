@@ -52,6 +52,7 @@ pub struct Yard<P: Disk, L: Disk> {
 }
 
 impl<P: Disk, L: Disk> Yard<P, L> {
+    ghost use Rattle.ct_yard.specs.Telling.{telling};
     ghost use Rattle.ct_yard.specs.LogTexts.{IsTextOf};
     ghost use Rattle.ct_yard.specs.Machine.{Machine, Commits, opened_machine};
     ghost use Rattle.ct_yard.specs.Yards.{StandsFor, IsSettled, KeptThrough};
@@ -71,7 +72,7 @@ impl<P: Disk, L: Disk> Yard<P, L> {
         ensures stands { (founded : Bool) (text : List ℕ) (history : History) → IsHistory history → front ≡ last_number history → state ≡ after history
             → (IsTrue founded → IsLog L.content L.may_leave log)
             → (IsTrue founded → IsTextOf text history.transactions (durable_text L.content log)) → (IsTrue founded → log.flow.end < 2 ^ 62)
-            → StandsFor founded L.faults L.content L.may_leave text (opened_machine history (L.faults log.device) log.flow.end log.flow.next) result }
+            → StandsFor founded (telling L.tells L.faults L.content L.may_leave L.left_since) text (opened_machine history (L.faults log.device) log.flow.end log.flow.next) result }
     {
         Yard {
             pages,
@@ -89,9 +90,10 @@ impl<P: Disk, L: Disk> Yard<P, L> {
         requires running { self.old.halt ≡ None }
         requires allowed { allows self.old.state change ≡ true }
         requires settled { IsSettled self.old }
-        ensures commits { (founded : Bool) (text : List ℕ) (machine : Machine) → (IsTrue founded → IsTrue L.tells) → StandsFor founded L.faults L.content L.may_leave text machine self.old →
-            (next : Machine) × Commits machine change result next × StandsFor founded L.faults L.content L.may_leave text next self.new
-            × KeptThrough founded L.left_since text machine self.old.log.device next self.new.log.device }
+        ensures commits { let disk = telling L.tells L.faults L.content L.may_leave L.left_since in
+            (founded : Bool) (text : List ℕ) (machine : Machine) → (IsTrue founded → IsTrue L.tells) → StandsFor founded disk text machine self.old →
+            (next : Machine) × Commits machine change result next × StandsFor founded disk text next self.new
+            × KeptThrough founded disk text machine self.old.log.device next self.new.log.device }
         ensures settled { IsSettled self.new }
         ensures pages { self.new.pages ≡ self.old.pages }
     {
@@ -121,7 +123,7 @@ impl<P: Disk, L: Disk> Yard<P, L> {
         requires room { has_room_for self.old (length group.now) ≡ true }
         requires running { self.old.halt ≡ None }
         requires settled { IsSettled self.old }
-        ensures { Writes L.tells L.faults L.content L.may_leave L.left_since group.now result self.old self.new }
+        ensures { Writes (telling L.tells L.faults L.content L.may_leave L.left_since) group.now result self.old self.new }
     {
         self.log.append(group)?;
         self.front += 1;

@@ -4,6 +4,7 @@ use Rattle.ct_log.specs.Heads.{has_open_header}
 use Rattle.ct_log.specs.Reading.{IsRead, log_bytes}
 use Rattle.ct_log.specs.declared.log.Log.{Log}
 use Rattle.ct_log.proofs.HeadReads.{IsRead-then}
+use Rattle.ct_yard.specs.Telling.{telling}
 use Rattle.ct_recover.specs.Opening.{IsBad}
 use Rattle.ct_recover.proofs.Yards.{opens, of_ok}
 use Rattle.ct_recover.proofs.Kept.{kept_yard, kept_refusal, within_limit}
@@ -17,7 +18,7 @@ returns-then-is_err-2-clause-bad g c = λ here place is. let none : ⊥ = cc is 
 
 pub returns-in-Ok-clause-opened : goal.returns-in-Ok-clause-opened
 returns-in-Ok-clause-opened g c =
-    opens g.L.Disk.tells g.L.Disk.faults g.L.Disk.content g.L.Disk.may_leave g.L.Disk.left_since c.args.log c.sync-2.new.self c.in-Ok.field-0 c.assemble.result c.sync-2.ensures.content
+    opens (telling g.L.Disk.tells g.L.Disk.faults g.L.Disk.content g.L.Disk.may_leave g.L.Disk.left_since) c.args.log c.sync-2.new.self c.in-Ok.field-0 c.assemble.result c.sync-2.ensures.content
     (λ here. of_ok (Only (g.L.Disk.content c.args.log) (g.L.Disk.may_leave c.sync-2.new.self)) c.sync-2.result (cc) (c.sync-2.ensures.stable here))
     c.in-Ok.ensures (λ here. (c.in-Ok.ensures.read here).same) c.assemble.ensures.log c.assemble.ensures.stands
 
@@ -26,7 +27,7 @@ returns-in-Ok-clause-open g c = λ here. ap has_open_header (sym (c.sync-2.ensur
 
 pub returns-in-Ok-clause-kept : goal.returns-in-Ok-clause-kept
 returns-in-Ok-clause-kept g c = λ here head front history founds has.
-    kept_yard (g.L.Disk.content c.args.log) head front history founds (within_limit front history.transactions (g.L.Disk.content c.args.log) has) g.L.Disk.tells g.L.Disk.faults g.L.Disk.content g.L.Disk.may_leave c.args.log c.assemble.result here refl (returns-in-Ok-clause-opened g c)
+    kept_yard (g.L.Disk.content c.args.log) head front history founds (within_limit front history.transactions (g.L.Disk.content c.args.log) has) (telling g.L.Disk.tells g.L.Disk.faults g.L.Disk.content g.L.Disk.may_leave g.L.Disk.left_since) c.args.log c.assemble.result here refl (returns-in-Ok-clause-opened g c)
 
 pub returns-in-Ok-clause-log : goal.returns-in-Ok-clause-log
 returns-in-Ok-clause-log g c = λ here.

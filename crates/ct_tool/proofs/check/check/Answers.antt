@@ -5,7 +5,7 @@ use Rattle.ct_tool.proofs.check.check.Goals as goal
 pub returns-in-Ok-clause-run : goal.returns-in-Ok-clause-run
 returns-in-Ok-clause-run g c = inl (record {
   yard = c.in-Ok.yard;
-  opened = record { opens = c.in-Ok.ensures.opened; as_kept = λ tells head front history founds has. c.in-Ok.ensures.kept tells head front history founds has };
+  opened = record { opens = c.in-Ok.ensures.opened; read = c.in-Ok.ensures.log; as_kept = λ tells head front history founds has. c.in-Ok.ensures.kept tells head front history founds has };
   same_pages = c.tell.ensures.pages;
   same_log = c.tell.ensures.log;
   last = c.tell.ensures.front;

@@ -2,11 +2,12 @@ use Rattle.std.proofs.Common.{refl, sym, ◌∙◌, inl, inr, subst}
 use Rattle.std.proofs.KnownBytes.{Keeps-refl}
 use Rattle.ct_yard.specs.Machine.{opened_machine}
 use Rattle.ct_tool.specs.declared.ended.Cause.{Cause}
-use Rattle.ct_tool.specs.Runs.{IsOpenCause}
+use Rattle.ct_tool.specs.Causes.{IsOpenCause}
+use Rattle.ct_tool.specs.Talking.{input_of, output_of}
 use Rattle.ct_tool.proofs.Causes.{cause_since}
 use Rattle.ct_log.specs.Reading.{IsRead}
 use Rattle.ct_tool.proofs.Keeping.{unread, none_keeps, session_keeps}
-use Rattle.ct_tool.proofs.Endings.{exec_ends, open_why, founded, founded_tells, session_is_not_bad, session_is_not_undone, opened_bad}
+use Rattle.ct_tool.proofs.Endings.{open_why, founded, founded_tells, session_is_not_bad, session_is_not_undone, opened_bad}
 use Rattle.ct_tool.proofs.exec.exec.Goals as goal
 
 pub returns-in_default-clause-bad : goal.returns-in_default-clause-bad
@@ -15,7 +16,7 @@ returns-in_default-clause-bad g c = λ tells place same. let none : ⊥ = cc (sy
 pub returns-in-Ok-open_store-clause-run : goal.returns-in-Ok-open_store-clause-run
 returns-in-Ok-open_store-clause-run g c = inl (record {
   yard = c.in-Ok-open_store.yard;
-  opened = record { opens = c.in-Ok-open_store.ensures.opened; as_kept = λ tells head front history founds has. c.in-Ok-open_store.ensures.kept tells head front history founds has };
+  opened = record { opens = c.in-Ok-open_store.ensures.opened; read = c.in-Ok-open_store.ensures.log; as_kept = λ tells head front history founds has. c.in-Ok-open_store.ensures.kept tells head front history founds has };
   same_pages = c.run_session.ensures.pages;
   session = c.run_session.ensures.ran;
 })
@@ -23,8 +24,7 @@ returns-in-Ok-open_store-clause-run g c = inl (record {
 pub returns-in-Ok-open_store-clause-kind : goal.returns-in-Ok-open_store-clause-kind
 returns-in-Ok-open_store-clause-kind g c =
     let opens = c.in-Ok-open_store.ensures.opened in
-    exec_ends c.run_session.result.cause
-    (c.run_session.ensures.cause (founded g.L.Disk.tells (g.L.Disk.content c.args.log) c.in-Ok-open_store.yard.log.flow.end) opens.front
+    inr (c.run_session.ensures.cause (founded g.L.Disk.tells (g.L.Disk.content c.args.log) c.in-Ok-open_store.yard.log.flow.end) opens.front
     (opened_machine opens.history (g.L.Disk.faults c.in-Ok-open_store.yard.log.device) c.in-Ok-open_store.yard.log.flow.end c.in-Ok-open_store.yard.log.flow.next)
     (founded_tells g.L.Disk.tells (g.L.Disk.content c.args.log) c.in-Ok-open_store.yard.log.flow.end) opens.stands refl).0
 
@@ -67,10 +67,12 @@ returns-in-Ok-open_store-clause-kept g c = λ p_told told head front history lea
     session_keeps g.P.Disk.content g.P.Disk.may_leave g.P.Disk.left_since g.L.Disk.content g.L.Disk.may_leave g.L.Disk.left_since c.args.pages c.run_session.result.pages c.args.log c.run_session.result.log head front history least
     (g.met.P.Disk.reads_now c.args.pages p_told) (g.met.L.Disk.reads_now c.args.log told)
     (subst (λ d. IsRead g.P.Disk.content g.P.Disk.may_leave g.P.Disk.left_since c.args.pages d) (sym c.run_session.ensures.pages) (c.in-Ok-open_store.ensures.pages p_told)) founds from_base kept
-    g.L.Disk.tells g.L.Disk.faults c.run_session.result.cause c.run_session.result.front (g.I.Source.taken c.args.input.now) (g.I.Source.taken c.run_session.new.input) (g.O.Sink.written c.args.out.now) (g.O.Sink.written c.run_session.new.out) told
+    g.L.Disk.tells g.L.Disk.faults c.run_session.result.cause c.run_session.result.front
+    (input_of g.I.Source.taken g.I.Source.left g.I.Source.count g.I.Source.faults c.args.input.now) (input_of g.I.Source.taken g.I.Source.left g.I.Source.count g.I.Source.faults c.run_session.new.input)
+    (output_of g.O.Sink.written g.O.Sink.faults c.args.out.now) (output_of g.O.Sink.written g.O.Sink.faults c.run_session.new.out) told
     (record {
       yard = c.in-Ok-open_store.yard;
-      opened = record { opens = c.in-Ok-open_store.ensures.opened; as_kept = λ here h f hs fs has. c.in-Ok-open_store.ensures.kept here h f hs fs has };
+      opened = record { opens = c.in-Ok-open_store.ensures.opened; read = c.in-Ok-open_store.ensures.log; as_kept = λ here h f hs fs has. c.in-Ok-open_store.ensures.kept here h f hs fs has };
       same_pages = c.run_session.ensures.pages;
       session = c.run_session.ensures.ran;
     })

@@ -1,8 +1,8 @@
 use Rattle.std.proofs.Common.{ℕ, List, Err, subst}
 use Rattle.ct_link.specs.declared.sink.SinkError.{SinkError}
-use Rattle.ct_tool.specs.Told.{Puts}
-use Rattle.ct_tool.proofs.Tellings.{part_put}
-use Rattle.ct_tool.proofs.block.put_replies.Goals as goal
+use Rattle.ct_tool.specs.Talking.{Puts}
+use Rattle.ct_tool.proofs.Talks.{part_put}
+use Rattle.ct_tool.proofs.talk.put_replies.Goals as goal
 
 pub returns-in-Err-clause-put : goal.returns-in-Err-clause-put
 returns-in-Err-clause-put g c =
