@@ -1,7 +1,5 @@
-//! Runs over devices in memory: what they write, how they end, each outside call failing in turn, and what is
-//! opened again after a stop.
-
-ghost use Rattle.std.specs.Prelude.{◌<◌};
+//! Runs over devices in memory: what they write, how they end, and what is opened again after a stop. Inputs in pieces
+//! and outside calls that fail are rows of the program `rows`.
 
 use crate::{Cause, Ended, run_tool};
 use ct_disk::MemDisk;
@@ -89,68 +87,12 @@ fn made(alloc: Global, lines: &[u8]) -> Result<Store, NoMemory> {
     again(alloc, &store, 0, b'C')
 }
 
-// runs a session over an input in pieces of so many bytes, to an output that takes one byte a call
-fn exec_in_pieces(alloc: Global, most: usize) -> Result<(Cause, MemSink), NoMemory>
-    requires { 0 < most }
-{
-    let mut input = MemSource::new(alloc, LINES)?;
-    let mut out = MemSink::new(alloc);
-    input.in_pieces(most);
-    out.in_pieces(1);
-    let (cause, _store) = run(alloc, "exec", made(alloc, b"")?, &mut input, &mut out)?;
-    Ok((cause, out))
-}
-
 #[test]
 fn a_session_writes_its_replies_and_its_log(rt: HostRuntime) -> Result<(), Fail> {
     let (cause, store, out) = run_on(rt.alloc(), "exec", made(rt.alloc(), b"")?, LINES)?;
     assert_eq!(rt; cause, Cause::Done);
     assert_eq!(rt; out.bytes(), REPLIES.as_slice());
     assert_eq!(rt; store.log.bytes().len(), 12389);
-    Ok(())
-}
-
-// what a session on a new store writes
-fn answered(alloc: Global, lines: &[u8]) -> Result<(Cause, MemSink), NoMemory> {
-    let (cause, _store, out) = run_on(alloc, "exec", made(alloc, b"")?, lines)?;
-    Ok((cause, out))
-}
-
-#[test]
-fn a_long_line_is_answered_once(rt: HostRuntime) -> Result<(), Fail> {
-    let mut lines = vec![in rt.alloc(); b'x'; 20000]?;
-    lines.push(b'\n')?;
-    let (cause, out) = answered(rt.alloc(), &lines)?;
-    assert_eq!(rt; cause, Cause::Done);
-    assert_eq!(rt; out.bytes(), b"ERR BADLINE 16384\n".as_slice());
-    Ok(())
-}
-
-// the input's second call fails, so a run that goes on after the first ends with `SOURCE`
-#[test]
-fn quit_stops_the_session(rt: HostRuntime) -> Result<(), Fail> {
-    let mut input = MemSource::new(rt.alloc(), b"HELLO\nQUIT\nHELLO\nHELLO\n")?;
-    input.in_pieces(17);
-    input.fail_at(2)?;
-    let mut out = MemSink::new(rt.alloc());
-    let store = made(rt.alloc(), b"")?;
-    let (cause, _store) = run(rt.alloc(), "exec", store, &mut input, &mut out)?;
-    assert_eq!(rt; cause, Cause::Done);
-    assert_eq!(rt; out.bytes(), b"ERR BADLINE 0\nOK\n".as_slice());
-    Ok(())
-}
-
-#[test]
-fn pieces_make_no_difference(rt: HostRuntime) -> Result<(), Fail> {
-    let runs = [
-        exec_in_pieces(rt.alloc(), 1)?,
-        exec_in_pieces(rt.alloc(), 47)?,
-        exec_in_pieces(rt.alloc(), 77)?,
-    ];
-    for (cause, out) in runs {
-        assert_eq!(rt; cause, Cause::Done);
-        assert_eq!(rt; out.bytes(), REPLIES.as_slice());
-    }
     Ok(())
 }
 
@@ -161,27 +103,6 @@ fn an_unfinished_and_a_long_line_are_answered(rt: HostRuntime) -> Result<(), Fai
     let (cause, _store, out) = run_on(rt.alloc(), "exec", made(rt.alloc(), b"")?, &text)?;
     assert_eq!(rt; cause, Cause::Done);
     assert_eq!(rt; out.bytes(), b"ERR BADLINE 16384\nERR NOFILE\n".as_slice());
-    Ok(())
-}
-
-// what a run puts whose log fails from a call on: six calls open an empty log, four write each group
-fn replies_from(call: u64) -> &'static str {
-    match call {
-        1..=6 => "",
-        7..=10 => "ERR HALT_ERR WRITE\nERR HALT_ERR WRITE\nERR HALT_ERR WRITE\n",
-        _ => "OK 1\nERR HALT_ERR WRITE\nERR HALT_ERR WRITE\n",
-    }
-}
-
-#[test]
-fn each_call_of_the_log_fails_in_turn(rt: HostRuntime) -> Result<(), Fail> {
-    for call in 1..=14 {
-        let mut store = made(rt.alloc(), b"")?;
-        store.log.fail_from(call);
-        let (cause, _store, out) = run_on(rt.alloc(), "exec", store, LINES)?;
-        assert_eq!(rt; cause, Cause::Device, "{call}");
-        assert_eq!(rt; out.bytes(), replies_from(call).as_bytes(), "{call}");
-    }
     Ok(())
 }
 
@@ -252,38 +173,6 @@ fn a_damaged_log_is_refused_or_ends_early(rt: HostRuntime) -> Result<(), Fail> {
         let damaged = again(rt.alloc(), &store, at, if at == 4128 { 1 } else { 255 })?;
         let (cause, told) = checked(rt.alloc(), damaged)?;
         assert_eq!(rt; (cause, told.bytes()), (wanted, b"".as_slice()), "{at}");
-    }
-    Ok(())
-}
-
-#[test]
-fn each_call_of_the_input_fails_in_turn(rt: HostRuntime) -> Result<(), Fail> {
-    for taken in 0..=LINES.len() {
-        let mut input = MemSource::new(rt.alloc(), LINES)?;
-        input.in_pieces(1);
-        input.fail_at(taken as u64 + 1)?;
-        let mut out = MemSink::new(rt.alloc());
-        let store = made(rt.alloc(), b"")?;
-        let (cause, _store) = run(rt.alloc(), "exec", store, &mut input, &mut out)?;
-        assert_eq!(rt; cause, Cause::Source, "{taken}");
-        assert!(rt; REPLIES.starts_with(out.bytes()), "{taken}");
-        let ends = |bytes: &[u8]| bytes.split(|byte| *byte == b'\n').count();
-        assert_eq!(rt; ends(out.bytes()), ends(&LINES[..taken]), "{taken}");
-    }
-    Ok(())
-}
-
-#[test]
-fn each_call_of_the_output_fails_in_turn(rt: HostRuntime) -> Result<(), Fail> {
-    for put in 0..REPLIES.len() {
-        let mut input = MemSource::new(rt.alloc(), LINES)?;
-        let mut out = MemSink::new(rt.alloc());
-        out.in_pieces(1);
-        out.fail_at(put as u64 + 1)?;
-        let store = made(rt.alloc(), b"")?;
-        let (cause, _store) = run(rt.alloc(), "exec", store, &mut input, &mut out)?;
-        assert_eq!(rt; cause, Cause::Sink, "{put}");
-        assert_eq!(rt; out.bytes(), &REPLIES[..put], "{put}");
     }
     Ok(())
 }

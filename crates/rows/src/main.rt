@@ -1,5 +1,6 @@
 //! `rows`: runs the commands of a script over stores in memory, and writes what each comes to.
 //! Where the script has `# NAME` a row begins, with empty devices; `> WORDS` is a command, and the lines behind it are its input.
+//! `! WHAT NUMBER` before a command arranges what is to happen to the devices or in the command.
 #![tactic(auto)]
 
 mod row;
@@ -29,9 +30,25 @@ fn read(rt: &HostRuntime, row: Row, line: &str) -> Result<Row> {
         row.begin(rt.alloc(), words)?;
         return Ok(row);
     }
+    if let Some(words) = line.strip_prefix("! ") {
+        let row = finish(rt, row)?;
+        println!(rt; "{line}")?;
+        return arrange(rt, row, words);
+    }
     let mut row = row;
     row.add_line(line)?;
     Ok(row)
+}
+
+/// Arranges what these words say, of which the last is a number.
+fn arrange(rt: &HostRuntime, row: Row, words: &str) -> Result<Row> {
+    let Some((what, number)) = words.rsplit_once(' ') else {
+        return Ok(row);
+    };
+    let Ok(number) = number.parse::<u64>() else {
+        return Ok(row);
+    };
+    Ok(row.arrange(rt.alloc(), what, number)?)
 }
 
 /// Runs the command that has begun, where there is one, and writes its output, its cause and the last number.

@@ -6,6 +6,29 @@ use ct_link::{MemSink, MemSource};
 use ct_tool::{Cause, Ended, run_tool};
 use std::alloc::Global;
 
+/// What is arranged for a command's input and output.
+#[derive(Clone, Copy)]
+struct Arranged {
+    /// How many bytes a call takes and puts at most.
+    pieces: usize,
+    /// Which call of the input fails, counted from 1; none at 0.
+    input_fails: u64,
+    /// Which call of the output fails.
+    output_fails: u64,
+    /// Whether the input ends without an LF.
+    is_cut: bool,
+}
+
+impl Arranged {
+    /// Nothing is arranged.
+    const NOTHING: Arranged = Arranged {
+        pieces: usize::MAX,
+        input_fails: 0,
+        output_fails: 0,
+        is_cut: false,
+    };
+}
+
 /// The devices of a store, and a command with its input so far.
 #[derive(Drop)]
 pub struct Row {
@@ -13,6 +36,7 @@ pub struct Row {
     log: MemDisk,
     words: Vec<String>,
     input: String,
+    arranged: Arranged,
 }
 
 /// What a command came to.
@@ -36,7 +60,62 @@ impl Row {
             log: MemDisk::new(alloc),
             words: Vec::new(alloc),
             input: String::new(alloc),
+            arranged: Arranged::NOTHING,
         }
+    }
+
+    /// Arranges what is to happen to the devices before the next command, or in it. What is not known is passed over.
+    pub fn arrange(self, alloc: Global, what: &str, number: u64) -> Result<Row, NoMemory> {
+        let mut row = self;
+        match what {
+            "pieces of" => row.arranged.pieces = number.max(1) as usize,
+            "input fails at" => row.arranged.input_fails = number,
+            "output fails at" => row.arranged.output_fails = number,
+            "input lacks its last" => row.arranged.is_cut = true,
+            "log fails from" => row.log.fail_from(number),
+            "devices as a crash leaves them, pick" => return row.crashed(number),
+            "devices as they are read, calls" => return row.renewed(alloc),
+            _ => {}
+        }
+        Ok(row)
+    }
+
+    /// The devices as a crash leaves them.
+    fn crashed(self, pick: u64) -> Result<Row, NoMemory> {
+        let Row {
+            pages,
+            log,
+            words,
+            input,
+            arranged,
+        } = self;
+        Ok(Row {
+            pages: pages.crash(pick)?,
+            log: log.crash(pick)?,
+            words,
+            input,
+            arranged,
+        })
+    }
+
+    /// The devices as a read gives them, with no call made yet.
+    fn renewed(self, alloc: Global) -> Result<Row, NoMemory> {
+        let pages = MemDisk::of(alloc, self.pages.bytes())?;
+        let log = MemDisk::of(alloc, self.log.bytes())?;
+        let Row {
+            pages: _,
+            log: _,
+            words,
+            input,
+            arranged,
+        } = self;
+        Ok(Row {
+            pages,
+            log,
+            words,
+            input,
+            arranged,
+        })
     }
 
     /// Whether a command has begun.
@@ -65,10 +144,14 @@ impl Row {
             pages,
             log,
             words,
-            input,
+            mut input,
+            arranged,
         } = self;
-        let mut input = MemSource::new(alloc, input.as_bytes())?;
-        let mut output = MemSink::new(alloc);
+        if arranged.is_cut {
+            input.pop();
+        }
+        let mut input = arranged_input(alloc, input.as_bytes(), arranged)?;
+        let mut output = arranged_output(alloc, arranged)?;
         let Ended {
             status: _,
             cause,
@@ -81,6 +164,7 @@ impl Row {
             log,
             words: Vec::new(alloc),
             input: String::new(alloc),
+            arranged: Arranged::NOTHING,
         };
         Ok(Outcome {
             row,
@@ -89,4 +173,24 @@ impl Row {
             front,
         })
     }
+}
+
+/// An input of these bytes, as it is arranged.
+fn arranged_input(alloc: Global, bytes: &[u8], arranged: Arranged) -> Result<MemSource, NoMemory> {
+    let mut input = MemSource::new(alloc, bytes)?;
+    input.in_pieces(arranged.pieces.max(1));
+    if arranged.input_fails > 0 {
+        input.fail_at(arranged.input_fails)?;
+    }
+    Ok(input)
+}
+
+/// An output, as it is arranged.
+fn arranged_output(alloc: Global, arranged: Arranged) -> Result<MemSink, NoMemory> {
+    let mut output = MemSink::new(alloc);
+    output.in_pieces(arranged.pieces.max(1));
+    if arranged.output_fails > 0 {
+        output.fail_at(arranged.output_fails)?;
+    }
+    Ok(output)
 }
