@@ -49,16 +49,8 @@ taken_is_duplicate file num image none = taken_in num image file.records file.de
 pub fine : (image : List ℕ) (file : File) → has_fitting_len file.def.kind (length image) ≡ true → is_duplicate image file ≡ false → add_refusal image file ≡ None
 fine image file fits fresh = rw (fits, fresh) refl
 
-pub bad_length : (image : List ℕ) (file : File) → has_fitting_len file.def.kind (length image) ≡ false → add_refusal image file ≡ Some bad_len
-bad_length image file fits = rw fits refl
-
 pub duplicate : (image : List ℕ) (file : File) → has_fitting_len file.def.kind (length image) ≡ true → is_duplicate image file ≡ true → add_refusal image file ≡ Some kdup_err
 duplicate image file fits there = rw (fits, there) refl
-
--- a number that is free and an image that may stand
-pub allowed_by : (from_one free fits taken room : Bool) → from_one ≡ true → free ≡ true → fits ≡ true → taken ≡ false → room ≡ true
-    → ((from_one && free) && ((fits && not taken) && room)) ≡ true
-allowed_by from_one free fits taken room a b c d e = rw (a, b, c, d, e) refl
 
 -- ---- a file of the state
 
@@ -77,11 +69,3 @@ free_there state f file num len at free = subst (λ (o : Option File). IsFree nu
 -- a key that is taken there
 pub taken_there : (state : State) (f : ℕ) (file : File) (num : ℕ) (image : List ℕ) (taken : Bool) → slice_get state f ≡ Some file → taken ≡ passes (slice_get state f) (λ g. has_taken_key g num image) → has_taken_key file num image ≡ taken
 taken_there state f file num image taken at is = sym (is ∙ ap (λ (o : Option File). passes o (λ g. has_taken_key g num image)) at)
-
--- an image that a fitting file may have is not longer than any may be
-pub short_image : (file : File) (len : ℕ) → is_fitting file ≡ true → has_fitting_len file.def.kind len ≡ true → len ≤ LONGEST_IMAGE
-short_image file len fitting fits = short_by file.def.kind len (and_parts _ _ (and_parts _ _ (and_parts _ _ (and_parts _ _ (and_parts _ _ fitting).0).0).0).0).1 fits
-  where
-    short_by : (kind : Kind) (len : ℕ) → is_valid_kind kind ≡ true → has_fitting_len kind len ≡ true → len ≤ LONGEST_IMAGE
-    short_by (Fixed fixed) len valid fits = grind (arith, nat_tests)
-    short_by (Variable min max) len valid fits = grind (arith, nat_tests)

@@ -19,10 +19,6 @@ use Rattle.ct_isam.specs.Making.{IfTooGreat}
 use Rattle.ct_isam.specs.Calls.{create_refusal}
 use Rattle.ct_isam.specs.Replies.{exists, bad_def, file_full}
 
--- a segment that begins or ends behind every image is not valid
-pub far_seg : (least : ℕ) (seg : Seg) → least ≤ LONGEST_IMAGE → LONGEST_IMAGE < seg.at + seg.len → is_valid_seg least seg ≡ false
-far_seg least seg short far = and_right (takes_len seg.mode seg.len) (leb (seg.at + seg.len) least) (lt-leb _ _ (omega arith))
-
 -- one that is not valid makes a list not valid
 pub not_all : {X Y : Type 0} (f : X → Y) (p : Y → Bool) (xs : List X) (i : ℕ) (d : X) → i < length xs → p (f (get_or xs i d)) ≡ false → list_all p (map f xs) ≡ false
 not_all f p [] i d within fails = absurd (omega arith)
@@ -34,10 +30,6 @@ pub too_great_by : (why : Undescribed) (A B : Type 0) → (A → B) → IfTooGre
 too_great_by TooGreat A B more h = more h
 too_great_by Memory A B more h = tt
 
--- an index whose segments are not valid is not
-pub bad_segs : (least : ℕ) (index : IndexDef) → list_all (is_valid_seg least) index.segs ≡ false → is_valid_index least index ≡ false
-bad_segs least index fails = and_left _ _ (and_right _ _ fails)
-
 -- lengths that are not valid make a definition not valid
 pub bad_kind : (def : FileDef) → is_valid_kind def.kind ≡ false → is_valid def ≡ false
 bad_kind def fails = and_left _ _ (and_left _ _ (and_left _ _ (and_right _ _ fails)))
@@ -45,16 +37,6 @@ bad_kind def fails = and_left _ _ (and_left _ _ (and_left _ _ (and_right _ _ fai
 least_small : (kind : Kind) → is_valid_kind kind ≡ true → least_len kind ≤ LONGEST_IMAGE
 least_small (Fixed len) valid = grind (arith, nat_tests)
 least_small (Variable min max) valid = grind (arith, nat_tests)
-
--- and so do indexes that are not valid in any image
-pub bad_indexes : (def : FileDef) → ((least : ℕ) → least ≤ LONGEST_IMAGE → list_all (is_valid_index least) def.indexes ≡ false) → is_valid def ≡ false
-bad_indexes def fails = elim (cases_Bool (is_valid_kind def.kind)) [
-  | inl valid ↦ and_left _ _ (and_right _ _ (fails (least_len def.kind) (least_small def.kind valid)))
-  | inr not_valid ↦ bad_kind def not_valid
-]
-
-pub long_fixed : (len : ℕ) → LONGEST_IMAGE < len → is_valid_kind (Fixed len) ≡ false
-long_fixed len long = and_right (leb 1 len) (leb len LONGEST_IMAGE) (lt-leb _ _ long)
 
 pub long_variable : (min max : ℕ) → (LONGEST_IMAGE < min) ⊎ (LONGEST_IMAGE < max) → is_valid_kind (Variable min max) ≡ false
 long_variable min max (inr long) = and_right (leb 1 min && leb min max) (leb max LONGEST_IMAGE) (lt-leb _ _ long)

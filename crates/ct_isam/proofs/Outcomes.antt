@@ -36,13 +36,6 @@ by_number : (pair : Option Pair) (rows : List Row) → row_of pair rows ≡ row_
 by_number None rows = refl
 by_number (Some pair) rows = refl
 
--- a search without a target, by the number that it found
-pub walk_found : (finder : Option Finder) (index : IndexDef) (rows : List Row) (seat : Seat) (num : Option ℕ) → IsFoundBy finder index rows (Ok num)
-    → walk_by finder index rows seat ≡ outcome_of (row_numbered num rows) seat
-walk_found finder index rows seat num h =
-    ap (λ (f : Option Finder). walk_by f index rows seat) h.1
-    ∙ ap (λ (r : Option Row). outcome_of r seat) (by_number (h.0 (pairs_of index rows)) rows ∙ ap (λ (n : Option ℕ). row_numbered n rows) (sym h.2))
-
 -- or why it was refused
 pub walk_refused : (finder : Option Finder) (index : IndexDef) (rows : List Row) (seat : Seat) (reply : Told) → IsFoundBy finder index rows (Err reply) → IsRefusal (walk_by finder index rows seat) reply
 walk_refused finder index rows seat reply (inl memory) = inl memory
@@ -56,13 +49,6 @@ seats_alike searches.Gt place key seat = refl
 seats_alike searches.Lte place key seat = refl
 seats_alike searches.Lt place key seat = refl
 seats_alike searches.FirstSet place key seat = refl
-
--- a search for a key, by the number that it found
-pub search_found : (kind : Search) (key : List ℕ) (index : IndexDef) (place : ℕ) (rows : List Row) (seat : Seat) (num : Option ℕ) → num ≡ number_of (key_finder kind key (pairs_of index rows))
-    → search_by kind (Some key) index place rows seat ≡ outcome_of (row_numbered num rows) (seat_with (set_of kind place key) seat)
-search_found kind key index place rows seat num h =
-    ap (λ (r : Option Row). outcome_of r (seat_for kind place key seat)) (by_number (key_finder kind key (pairs_of index rows)) rows ∙ ap (λ (n : Option ℕ). row_numbered n rows) (sym h))
-    ∙ ap (λ (s : Seat). outcome_of (row_numbered num rows) s) (seats_alike kind place key seat)
 
 -- a refusal shown
 pub refusal_looks : (outcome : Outcome) (reply : Told) (seats : List Seat) → IsRefusal outcome reply → Looks outcome seats (reply_of seats reply) seats

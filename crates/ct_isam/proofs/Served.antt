@@ -153,12 +153,6 @@ module _ {P L : Type 0} (disk : Telling L) where
       let done = serves founded front machine told stands running in
       (done.0, more machine done.0 (sym (stands.state running)) done.1, done.2, done.3)
 
-  pub unnamed_serves : (yard : Yard P L) (name image : List ℕ) (seats : List Seat) (reply : Told) → IsUnnamed name yard.state reply
-      → Serves disk (calls.Add name image) yard seats (reply_of seats reply) yard seats
-  unnamed_serves yard name image seats reply why =
-      still_serves (Replies (calls.Add name image)) yard seats (reply_of seats reply) seats
-      (λ machine same front. add_unnamed name image machine seats reply (subst (λ (s : State). IsUnnamed name s reply) (sym same) why))
-
   pub refused_serves : (yard : Yard P L) (name image : List ℕ) (f : ℕ) (found : File) (seats : List Seat) (reply : Told)
       → file_named name yard.state ≡ Some f → slice_get yard.state f ≡ Some found → IsRefusedBy (add_refusal image found) reply
       → Serves disk (calls.Add name image) yard seats (reply_of seats reply) yard seats
@@ -173,12 +167,6 @@ module _ {P L : Type 0} (disk : Telling L) where
   added_serves old new name image f num found seats reply new_seats named at fine serves =
       serves_as (AddsAs f num image) (Replies (calls.Add name image)) old new seats reply new_seats
       (λ machine next same acts. add_replies name image f num found machine next seats reply new_seats (ap (file_named name) same ∙ named) (ap (λ (s : State). slice_get s f) same ∙ at) fine acts) serves
-
-  pub create_refused_serves : (yard : Yard P L) (file : NewFile) (seats : List Seat) (reply : Told) → IsRefusedBy (create_refusal yard.state (described file)) reply
-      → Serves disk (calls.Create file) yard seats (reply_of seats reply) yard seats
-  create_refused_serves yard file seats reply why =
-      still_serves (Replies (calls.Create file)) yard seats (reply_of seats reply) seats
-      (λ machine same front. create_refused file machine seats reply (subst (λ (s : State). IsRefusedBy (create_refusal s (described file)) reply) (sym same) why))
 
   pub walk_serves : (yard : Yard P L) (walk : Walk) (name index : List ℕ) (seats : List Seat) (reply : Reply) (new_seats : List Seat) → Looks (in_index yard.state name index (walk_at walk seats)) seats reply new_seats
       → Serves disk (calls.Walk walk name index) yard seats reply yard new_seats

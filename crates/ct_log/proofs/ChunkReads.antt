@@ -29,37 +29,6 @@ padded (suc m) k (x ∷ xs) within =
     let left : m - length xs ≡ suc m - suc (length xs) = omega arith in
     ap (λ (l : List ℕ). x ∷ l) (padded m k xs (omega arith)) ∙ ap (λ n. x ∷ take m xs ++ replicate n 0) left
 
--- a read over zeros of as many bytes as there are, and zeros behind it
-pub frame_read : (content into five : List ℕ) (place n most size : ℕ) → five ≡ replicate 5 0 → place ≤ 2 ^ 62 → most ≡ min (2 ^ 62 - place) 5 → size ≡ length content → n ≡ min (length (take most five)) (size - place)
-    → take n into ≡ take n (drop place content) → (let k = min (length (take most five)) (size - place) in drop k into ≡ drop k (take most five))
-    → into ++ drop most five ≡ take 5 (drop place (log_bytes content) ++ zeros 5)
-unfolding zeros
-frame_read content into five place n most size zero_five fits is_most all count bytes rest =
-    let b = drop place (log_bytes content) in
-    let left = length-log_from content place in
-    let five_long : length five ≡ 5 = ap length zero_five in
-    let room : length (take most five) ≡ most = length-take most five ∙ omega arith in
-    let few : n ≡ min 5 (length b) = omega arith in
-    let old : take most five ≡ replicate most 0 = ap (λ (l : List ℕ). take most l) zero_five ∙ take-replicate most 5 0 (omega arith) in
-    let first : take n into ≡ take n b = bytes ∙ sym (within_log content place n (omega arith)) in
-    let second : drop n into ≡ replicate (most - n) 0 = ap (λ k. drop k into) count ∙ rest ∙ ap (λ k. drop k (take most five)) (sym count) ∙ ap (λ (l : List ℕ). drop n l) old ∙ drop-replicate n most 0 in
-    let third : drop most five ≡ replicate (5 - most) 0 = ap (λ (l : List ℕ). drop most l) zero_five ∙ drop-replicate most 5 0 in
-    let sum : (most - n) + (5 - most) ≡ 5 - length b = omega arith in
-    joined b into (drop most five) n (most - n) (5 - most) few first second third sum
-  where
-    joined : (b into back : List ℕ) (n k j : ℕ) → n ≡ min 5 (length b) → take n into ≡ take n b → drop n into ≡ replicate k 0 → back ≡ replicate j 0 → k + j ≡ 5 - length b → into ++ back ≡ take 5 (b ++ replicate 5 0)
-    joined b into back n k j few first second third sum =
-        ap (λ (l : List ℕ). l ++ back) (sym (take-append-drop n into))
-        ∙ ap (λ (l : List ℕ). (l ++ drop n into) ++ back) first
-        ∙ ap (λ (l : List ℕ). (take n b ++ l) ++ back) second
-        ∙ ap (λ (l : List ℕ). (take n b ++ replicate k 0) ++ l) third
-        ∙ append_assoc (take n b) (replicate k 0) (replicate j 0)
-        ∙ ap (λ (l : List ℕ). take n b ++ l) (replicate-append-replicate k j 0)
-        ∙ ap (λ i. take n b ++ replicate i 0) sum
-        ∙ ap (λ i. take i b ++ replicate (5 - length b) 0) few
-        ∙ ap (λ (l : List ℕ). l ++ replicate (5 - length b) 0) (take_min 5 b)
-        ∙ sym (padded 5 5 b (omega arith))
-
 -- no byte is missing in the length where four follow the gate
 length_field : (rest : List ℕ) → 4 ≤ length rest → take 4 (rest ++ zeros 5) ≡ take 4 rest
 length_field rest all = take-append-le 4 rest (zeros 5) all
@@ -95,11 +64,6 @@ chunk_found (x ∷ rest) frame n told gate len whole =
     behind_open x rest is_open
     ∙ cond-false (ltb (length rest) (4 + size)) damage (chunk (take size (drop 4 rest))) (le-ltb (length rest) (4 + size) (omega arith))
     ∙ ap (λ k. chunk (take k (drop 4 rest))) (sym field)
-
--- the groups of a whole chunk, as they are read
-pub groups_read : (content groups : List ℕ) (place n : ℕ) → place + 5 + n ≤ 2 ^ 62 → groups ≡ take n (drop (place + 5) content) → take n (drop 5 (drop place (log_bytes content))) ≡ groups
-groups_read content groups place n fits is =
-    ap (λ (l : List ℕ). take n l) (drop-drop 5 place (log_bytes content)) ∙ within_log content (place + 5) n fits ∙ sym is
 
 -- a length field is spelled as it was read
 length_spelled : (field : List ℕ) (n : ℕ) → length field ≡ 4 → ((k : ℕ) → get_or field k 0 < 256) → n ≡ from_le_bytes w32 field → length_bytes n ≡ field

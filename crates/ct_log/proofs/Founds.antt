@@ -98,11 +98,3 @@ not_nothing rest found =
       | inl past ↦ (let none : damage ≡ nothing = sym (cond-true (ltb (length rest) (4 + size)) damage (chunk (take size (drop 4 rest))) past) ∙ found in cc)
       | inr within ↦ (let none : chunk (take size (drop 4 rest)) ≡ nothing = sym (cond-false (ltb (length rest) (4 + size)) damage (chunk (take size (drop 4 rest))) within) ∙ found in cc)
     ]
-
--- the bytes where nothing is found
-pub end_is : (bytes : List ℕ) → found_in bytes ≡ nothing → (bytes ≡ []) ⊎ ((gate : ℕ) × (rest : List ℕ) × (gate ≢ 1) × (bytes ≡ gate ∷ rest))
-end_is [] found = inl refl
-end_is (gate ∷ rest) found = elim (cases_Bool (eqb gate 1)) [
-  | inl is_open ↦ absurd (not_nothing rest (sym (behind_open gate rest (eqb-true gate 1 is_open)) ∙ found))
-  | inr is_shut ↦ inr (gate, rest, eqb-false gate 1 is_shut, refl)
-]

@@ -20,10 +20,6 @@ pub framed_some : (groups : List ℕ) → 0 < length groups → framed groups �
 framed_some [] some = absurd (omega arith)
 framed_some (x ∷ groups) some = refl
 
-pub length-framed : (groups : List ℕ) → length (framed groups) ≡ chunk_size groups
-length-framed [] = refl
-length-framed (x ∷ groups) = length-chunk_body (x ∷ groups)
-
 -- the groups of a body
 pub groups_of-chunk_body : (groups : List ℕ) → groups_of (chunk_body groups) ≡ groups
 groups_of-chunk_body groups =
@@ -33,10 +29,6 @@ groups_of-chunk_body groups =
     ap (λ (l : List ℕ). drop 4 l) whole ∙ drop_at field (groups ++ 0 ∷ []) 4 (length-length_bytes (length groups)) in
     let count : length (chunk_body groups) - 5 ≡ length groups = omega (arith, length-chunk_body groups) in
     ap (λ n. take n (drop 4 (chunk_body groups))) count ∙ ap (λ (l : List ℕ). take (length groups) l) behind ∙ take_at groups (0 ∷ []) (length groups) refl
-
-pub groups_of-framed : (groups : List ℕ) → groups_of (framed groups) ≡ groups
-groups_of-framed [] = refl
-groups_of-framed (x ∷ groups) = groups_of-chunk_body (x ∷ groups)
 
 -- a body of these groups tells them
 pub framed_is : (body groups : List ℕ) → 0 < length groups → length groups < 2 ^ 32 → body ≡ chunk_body groups → (body ≡ framed (groups_of body)) × (length (groups_of body) < 2 ^ 32)

@@ -2,7 +2,6 @@
 use Rattle.std.specs.Prelude.{◌≡◌, ◌≤◌, ◌+◌, ◌-◌, ◌^◌, ◌==◌, ℕ, Bool, IsTrue, min, List, [], ◌∷◌, length, take, drop, nat_lt, if◌then◌else◌, Option, Some, None, Result, Ok, Err}
 use Rattle.std.specs.Int.{w32, from_le_bytes}
 use Rattle.ct_disk.specs.Disk.{GoesOn, unchanged}
-use Rattle.ct_log.specs.declared.read.Chunk.{Chunk}
 use Rattle.ct_log.specs.declared.read.LogFault.{LogFault}
 use Rattle.ct_log.specs.declared.window.Part.{Part}
 use Rattle.ct_log.specs.declared.window.Window.{Window}
@@ -29,14 +28,6 @@ abbrev pub found_in : List ℕ → Found
 found_in [] = nothing
 found_in (gate ∷ bytes) = if gate == 1 then chunk_in bytes else nothing
 
--- the answer tells what was found at this place
-abbrev pub Tells : Result (Option Chunk) LogFault → ℕ → Found → Type 0
-Tells (Ok None) place found = found ≡ nothing
-Tells (Ok (Some one)) place found = (found ≡ chunk one.groups) × (one.next ≡ place + 5 + length one.groups)
-Tells (Err (Bad at)) place found = (found ≡ damage) × (at ≡ place)
-Tells (Err Fault) place found = Unit {0}
-Tells (Err Memory) place found = Unit {0}
-
 -- calls that change nothing were made: the content is the same, and each image is one from before
 pub record IsRead {D : Type 0} (content : D → List ℕ) (may_leave : D → List ℕ → Type 0) (left_since : D → D → List ℕ → Type 0) (old new : D) : Type 0 where
   pub same : content new ≡ content old
@@ -61,9 +52,9 @@ abbrev pub groups_in : Window → Part → List ℕ
 groups_in window part = take part.len (drop part.from window.bytes)
 
 -- the answer tells what was found at this place, and the window has it
-abbrev pub TellsPart : Result (Option Part) LogFault → Window → ℕ → Found → Type 0
-TellsPart (Ok None) window place found = found ≡ nothing
-TellsPart (Ok (Some part)) window place found = (found ≡ chunk (groups_in window part)) × (part.next ≡ place + 5 + length (groups_in window part))
-TellsPart (Err (Bad at)) window place found = (found ≡ damage) × (at ≡ place)
-TellsPart (Err Fault) window place found = Unit {0}
-TellsPart (Err Memory) window place found = Unit {0}
+abbrev pub Tells : Result (Option Part) LogFault → Window → ℕ → Found → Type 0
+Tells (Ok None) window place found = found ≡ nothing
+Tells (Ok (Some part)) window place found = (found ≡ chunk (groups_in window part)) × (part.next ≡ place + 5 + length (groups_in window part))
+Tells (Err (Bad at)) window place found = (found ≡ damage) × (at ≡ place)
+Tells (Err Fault) window place found = Unit {0}
+Tells (Err Memory) window place found = Unit {0}

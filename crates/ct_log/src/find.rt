@@ -4,7 +4,7 @@ ghost use Rattle.std.specs.Prelude.{◌≡◌, ◌≤◌, ◌<◌, ◌+◌, ◌-
 ghost use Rattle.ct_disk.specs.Disk.{CountsFault, Rose};
 ghost use Rattle.ct_log.specs.Chunks.{BeginsWithChunk};
 ghost use Rattle.ct_log.specs.Front.{zeros};
-ghost use Rattle.ct_log.specs.Reading.{IsRead, IsWindow, Covers, TellsPart, found_in, groups_in, log_bytes, seen_from};
+ghost use Rattle.ct_log.specs.Reading.{IsRead, IsWindow, Covers, Tells, found_in, groups_in, log_bytes, seen_from};
 
 use crate::read::{FRAME, LogFault, groups_len, has_open_gate, log_end, read_over};
 use crate::window::{Part, Window};
@@ -125,7 +125,7 @@ fn frame_of(bytes: &[u8]) -> [u8; 5]
 
 /// A window in which nothing is read yet. It asks the device for its end, and holds for as long as nothing
 /// is written there.
-pub fn open_window<L: Disk>(alloc: Global, device: &mut L) -> Result<Window, DiskFault>
+pub(crate) fn open_window<L: Disk>(alloc: Global, device: &mut L) -> Result<Window, DiskFault>
     ensures window { IfOk result (λ window. IsWindow L.tells L.content L.size device.new window) }
     ensures read { IsTrue L.tells → IsRead L.content L.may_leave L.left_since device.old device.new }
     ensures size { L.size device.new ≡ L.size device.old }
@@ -146,14 +146,14 @@ pub fn open_window<L: Disk>(alloc: Global, device: &mut L) -> Result<Window, Dis
 ///
 /// The window is filled from the place on where the chunk is not whole in it; a chunk that is longer than
 /// 64 KiB is then alone in it.
-pub fn find_chunk<L: Disk>(
+pub(crate) fn find_chunk<L: Disk>(
     device: &mut L,
     window: &mut Window,
     place: u64,
 ) -> Result<Option<Part>, LogFault>
     requires place { place ≤ 2 ^ 62 }
     requires window { IsWindow L.tells L.content L.size device.old window.old }
-    ensures found { IsTrue L.tells → TellsPart result window.new place (found_in (drop place (log_bytes (L.content device.old)))) }
+    ensures found { IsTrue L.tells → Tells result window.new place (found_in (drop place (log_bytes (L.content device.old)))) }
     ensures next { IfOk result (λ found. IfSome found (λ part. (place + 5 ≤ part.next) × (part.next ≤ 2 ^ 62))) }
     ensures held { IfOk result (λ found. IfSome found (λ part. part.from + part.len ≤ length window.new.bytes)) }
     ensures bytes { IsTrue L.tells → IfOk result (λ found. IfSome found (λ part. BeginsWithChunk (groups_in window.new part) (drop place (log_bytes (L.content device.old))))) }

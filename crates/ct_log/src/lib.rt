@@ -17,7 +17,6 @@ mod read;
 mod stage;
 mod window;
 
-pub use find::{find_chunk, open_window};
 pub use flow::Flow;
 pub use groups::Groups;
 pub use head::{Head, Start, has_open_header, read_head};
@@ -25,7 +24,7 @@ pub use head_laws::{chunks_are_found, made_logs_are_read};
 pub use laws::{chunks_are_determined, log_holds_chunks, text_stands_for_chunks};
 pub use log::Log;
 pub use make::{is_id, make_log, open_gate, pad, write_behind};
-pub use read::{Chunk, LogFault, read_chunk};
+pub use read::LogFault;
 pub use stage::{FlushAt, Stage};
 pub use window::{Part, Window};
 

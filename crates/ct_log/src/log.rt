@@ -6,14 +6,14 @@ ghost use Rattle.ct_log.specs.Chunks.{BeginsWithChunk, EndsAfter};
 ghost use Rattle.ct_log.specs.Flow.{has_room, IsAtRest, SameFlow, Queued};
 ghost use Rattle.ct_log.specs.Front.{is_id, front};
 ghost use Rattle.ct_log.specs.Heads.{TellsHead, head_in, is_start};
-ghost use Rattle.ct_log.specs.Reading.{IsRead, IsWindow, Tells, TellsPart, found_in, groups_in, log_bytes};
+ghost use Rattle.ct_log.specs.Reading.{IsRead, IsWindow, Tells, found_in, groups_in, log_bytes};
 ghost use Rattle.ct_log.specs.Log.{IsLog, durable_text};
 
 use crate::find::{find_chunk, open_window};
 use crate::flow::Flow;
 use crate::head::{Head, read_head};
 use crate::pages::FIRST_CHUNK;
-use crate::read::{Chunk, LogFault, read_chunk};
+use crate::read::LogFault;
 use crate::stage::Stage;
 use crate::window::{Part, Window};
 use ct_disk::{Disk, DiskFault};
@@ -69,22 +69,6 @@ impl<L: Disk> Log<L> {
         }
     }
 
-    /// Reads the chunk at a place.
-    pub fn read_from(&mut self, alloc: Global, place: u64) -> Result<Option<Chunk>, LogFault>
-        requires { place ≤ 2 ^ 62 }
-        ensures found { IsTrue L.tells → Tells result place (found_in (drop place (log_bytes (L.content self.old.device)))) }
-        ensures next { IfOk result (λ found. IfSome found (λ chunk. (place + 5 ≤ chunk.next) × (chunk.next ≤ 2 ^ 62))) }
-        ensures bytes { IsTrue L.tells → IfOk result (λ found. IfSome found (λ chunk. BeginsWithChunk chunk.groups (drop place (log_bytes (L.content self.old.device))))) }
-        ensures flow { SameFlow self.old.flow self.new.flow }
-        ensures read { IsTrue L.tells → IsRead L.content L.may_leave L.left_since self.old.device self.new.device }
-        ensures size { L.size self.new.device ≡ L.size self.old.device }
-        ensures reads { L.reads self.new.device ≤ L.reads self.old.device + 2 }
-        ensures later { L.faults self.old.device ≤ L.faults self.new.device }
-        ensures cause { IsErrOf result LogFault.Fault → Rose (L.faults self.old.device) (L.faults self.new.device) }
-    {
-        read_chunk(alloc, &mut self.device, place)
-    }
-
     /// A window on the log, in which nothing is read yet.
     pub fn window(&mut self, alloc: Global) -> Result<Window, DiskFault>
         ensures window { IfOk result (λ window. IsWindow L.tells L.content L.size self.new.device window) }
@@ -101,7 +85,7 @@ impl<L: Disk> Log<L> {
     pub fn find_from(&mut self, window: &mut Window, place: u64) -> Result<Option<Part>, LogFault>
         requires place { place ≤ 2 ^ 62 }
         requires window { IsWindow L.tells L.content L.size self.old.device window.old }
-        ensures found { IsTrue L.tells → TellsPart result window.new place (found_in (drop place (log_bytes (L.content self.old.device)))) }
+        ensures found { IsTrue L.tells → Tells result window.new place (found_in (drop place (log_bytes (L.content self.old.device)))) }
         ensures next { IfOk result (λ found. IfSome found (λ part. (place + 5 ≤ part.next) × (part.next ≤ 2 ^ 62))) }
         ensures held { IfOk result (λ found. IfSome found (λ part. part.from + part.len ≤ length window.new.bytes)) }
         ensures bytes { IsTrue L.tells → IfOk result (λ found. IfSome found (λ part. BeginsWithChunk (groups_in window.new part) (drop place (log_bytes (L.content self.old.device))))) }

@@ -1,11 +1,10 @@
-//! Reading a log, chunk by chunk.
+//! Reading bytes of a log.
+//! What a chunk's gate and length say, and where a log ends.
 
-ghost use Rattle.std.specs.Prelude.{◌≡◌, ◌↔◌, ◌≤◌, ◌<◌, ◌+◌, ◌^◌, ℕ, slice_index, min, ◌++◌, IsTrue, IfOk, IfSome, IsErrOf, length, take, drop};
+ghost use Rattle.std.specs.Prelude.{◌≡◌, ◌↔◌, ◌≤◌, ◌<◌, ◌+◌, ◌^◌, ℕ, slice_index, min, IsTrue, IfOk, IsErrOf, length, take, drop};
 ghost use Rattle.std.specs.Int.{w32, from_le_bytes};
 ghost use Rattle.ct_disk.specs.Disk.{CountsFault, Rose};
-ghost use Rattle.ct_log.specs.Chunks.{BeginsWithChunk};
-ghost use Rattle.ct_log.specs.Front.{zeros};
-ghost use Rattle.ct_log.specs.Reading.{IsRead, Tells, found_in, log_bytes};
+ghost use Rattle.ct_log.specs.Reading.{IsRead};
 
 use crate::pages::LAST_END;
 use ct_disk::{Disk, DiskFault};
@@ -17,15 +16,6 @@ use thiserror::Error;
 pub(crate) const FRAME: u64 = 5;
 
 const OPEN: u8 = 1;
-
-/// An open chunk.
-#[derive(Drop)]
-pub struct Chunk {
-    /// Its groups, one behind the other.
-    pub groups: Items<u8>,
-    /// The place of the chunk behind it.
-    pub next: u64,
-}
 
 /// Why a log can't be read.
 #[derive(Clone, Copy, Debug, PartialEq, Eq, Error)]
@@ -72,51 +62,6 @@ impl From<AllocError> for LogFault {
     fn from(_refusal: AllocError) -> LogFault {
         LogFault::Memory
     }
-}
-
-/// Reads the chunk at a place. `None` is a closed gate or the device's end, `Bad` a chunk that goes
-/// on past the end.
-pub fn read_chunk<L: Disk>(
-    alloc: Global,
-    device: &mut L,
-    place: u64,
-) -> Result<Option<Chunk>, LogFault>
-    requires { place ≤ 2 ^ 62 }
-    ensures found { IsTrue L.tells → Tells result place (found_in (drop place (log_bytes (L.content device.old)))) }
-    ensures next { IfOk result (λ found. IfSome found (λ chunk. (place + 5 ≤ chunk.next) × (chunk.next ≤ 2 ^ 62))) }
-    ensures bytes { IsTrue L.tells → IfOk result (λ found. IfSome found (λ chunk. BeginsWithChunk chunk.groups (drop place (log_bytes (L.content device.old))))) }
-    ensures read { IsTrue L.tells → IsRead L.content L.may_leave L.left_since device.old device.new }
-    ensures size { L.size device.new ≡ L.size device.old }
-    ensures reads { L.reads device.new ≤ L.reads device.old + 2 }
-    ensures later { L.faults device.old ≤ L.faults device.new }
-    ensures cause { IsErrOf result LogFault.Fault → Rose (L.faults device.old) (L.faults device.new) }
-{
-    let frame = read_frame(device, place)?;
-    if !has_open_gate(&frame) {
-        return Ok(None);
-    }
-    let len = groups_len(&frame);
-    let next = place + FRAME + u64::from(len);
-    if log_end(device)? < next {
-        return Err(LogFault::Bad { at: place });
-    }
-    let groups = read_over(Items::new(alloc), device, place + FRAME, len as usize)?;
-    Ok(Some(Chunk { groups, next }))
-}
-
-/// Reads a chunk's gate and the length of its groups, with zeros for the bytes that are missing.
-fn read_frame<L: Disk>(device: &mut L, place: u64) -> Result<[u8; 5], DiskFault>
-    requires { place ≤ 2 ^ 62 }
-    ensures frame { IsTrue L.tells → IfOk result (λ frame. frame ≡ take 5 (drop place (log_bytes (L.content device.old)) ++ zeros 5)) }
-    ensures read { IsTrue L.tells → IsRead L.content L.may_leave L.left_since device.old device.new }
-    ensures size { L.size device.new ≡ L.size device.old }
-    ensures reads { L.reads device.new ≤ L.reads device.old + 1 }
-    ensures cause { CountsFault (L.faults device.old) (L.faults device.new) result }
-{
-    let mut frame = [0; 5];
-    let most = (LAST_END - place).min(FRAME) as usize;
-    device.read(place, &mut frame[..most])?;
-    Ok(frame)
 }
 
 /// Whether a chunk's gate is open.

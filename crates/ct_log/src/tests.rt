@@ -2,10 +2,7 @@
 
 ghost use Rattle.std.specs.Prelude.{◌<◌, ◌+◌, length};
 
-use crate::{
-    Chunk, FlushAt, Log, LogFault, Part, Start, find_chunk, has_open_header, is_id, make_log,
-    open_gate, open_window, read_chunk, read_head,
-};
+use crate::{FlushAt, Log, LogFault, Part, Start, is_id, make_log, open_gate, read_head};
 use ct_disk::{Disk, DiskError, MemDisk};
 use ct_items::NoMemory;
 use std::alloc::Global;
@@ -47,15 +44,6 @@ fn run<L: Disk>(log: &mut Log<L>, count: usize) -> Result<(), DiskError> {
     Ok(())
 }
 
-// The device that a crash leaves after this many steps of a flush, with this pick.
-fn crashed(alloc: Global, steps: usize, pick: u64) -> Result<MemDisk, DiskError> {
-    let mut log = new_log(alloc, MemDisk::new(alloc))?;
-    add(&mut log, b"group")?;
-    run(&mut log, steps)?;
-    let image = log.into_device().crash(pick)?;
-    Ok(image)
-}
-
 #[test]
 fn a_flush_ends_in_four_steps(rt: HostRuntime) -> Result<(), Fail> {
     let mut log = new_log(rt.alloc(), MemDisk::new(rt.alloc()))?;
@@ -89,23 +77,6 @@ fn a_group_that_comes_meanwhile_goes_into_the_next_chunk(rt: HostRuntime) -> Res
         bytes.bytes().get(12288..),
         Some(b"\x01\x03\0\0\0one\x01\x03\0\0\0two\0".as_slice())
     );
-    Ok(())
-}
-
-#[test]
-fn a_crash_leaves_a_chunk_whole_or_not_at_all(rt: HostRuntime) -> Result<(), Fail> {
-    let alloc = rt.alloc();
-    for pick in 0..4 {
-        assert_eq!(rt; crashed(alloc, 1, pick)?.bytes().get(12288), Some(&0));
-        assert_eq!(rt;
-            crashed(alloc, 3, pick)?.bytes().get(12289..),
-            Some(b"\x05\0\0\0group\0".as_slice())
-        );
-        assert_eq!(rt;
-            crashed(alloc, 4, pick)?.bytes().get(12288..),
-            Some(b"\x01\x05\0\0\0group\0".as_slice())
-        );
-    }
     Ok(())
 }
 
@@ -148,95 +119,23 @@ fn changed(alloc: Global, at: u64, bytes: &[u8]) -> Result<MemDisk, DiskError>
     Ok(disk)
 }
 
-// The groups of a chunk, and the place of the next one.
-fn parts(chunk: &Option<Chunk>) -> Option<(&[u8], u64)> {
-    match chunk {
-        Some(chunk) => Some((chunk.groups.as_slice(), chunk.next)),
-        None => None,
-    }
-}
-
 #[test]
-fn a_log_is_opened_read_and_gone_on_with(rt: HostRuntime) -> Result<(), Fail> {
+fn a_log_is_opened_and_gone_on_with(rt: HostRuntime) -> Result<(), Fail> {
     let alloc = rt.alloc();
     let Ok((mut log, head)) = Log::open(alloc, log_of_two(alloc)?) else {
         return Err(Fail::new("the log is not opened"));
     };
     assert_eq!(rt;
-        (head.id.as_slice(), head.base, head.gate),
-        (b"LOG".as_slice(), 7, true)
+        (head.id.as_slice(), head.base, head.gate, head.start.place),
+        (b"LOG".as_slice(), 7, true, 12288)
     );
-    assert_eq!(rt;
-        head.start,
-        Start {
-            sequence: 0,
-            place: 12288,
-            ordinal: 1,
-            last: 7
-        }
-    );
-    let one = log.read_from(alloc, 12288)?;
-    assert_eq!(rt; parts(&one), Some((b"one".as_slice(), 12296)));
-    let two = log.read_from(alloc, 12296)?;
-    assert_eq!(rt; parts(&two), Some((b"two".as_slice(), 12304)));
-    let end = log.read_from(alloc, 12304)?;
-    assert_eq!(rt; parts(&end), None);
     log.set_end(12304, 3);
-    assert_eq!(rt; (log.durable(), log.next(), log.end()), (2, 3, 12304));
-    assert!(rt; log.has_room(5));
     assert_eq!(rt; log.append(b"three")?, 3);
     run(&mut log, 4)?;
-    assert!(rt; log.is_flushed());
     assert_eq!(rt;
         log.into_device().bytes().get(12288..),
         Some(b"\x01\x03\0\0\0one\x01\x03\0\0\0two\x01\x05\0\0\0three\0".as_slice())
     );
-    Ok(())
-}
-
-#[test]
-fn a_header_with_a_closed_gate_tells_nothing(rt: HostRuntime) -> Result<(), Fail> {
-    let alloc = rt.alloc();
-    let mut disk = MemDisk::new(alloc);
-    assert!(rt; !read_head(alloc, &mut disk)?.gate);
-    make_log(&mut disk, b"LOG", 7)?;
-    assert!(rt; !has_open_header(&mut disk)?);
-    let head = read_head(alloc, &mut disk)?;
-    assert_eq!(rt;
-        (head.id.as_slice(), head.base, head.gate),
-        (b"".as_slice(), 0, false)
-    );
-    assert_eq!(rt;
-        head.start,
-        Start {
-            sequence: 0,
-            place: 12288,
-            ordinal: 1,
-            last: 0
-        }
-    );
-    open_gate(&mut disk)?;
-    assert!(rt; has_open_header(&mut disk)?);
-    assert!(rt; read_head(alloc, &mut disk)?.gate);
-    assert!(rt; !read_head(alloc, &mut changed(alloc, 36, &[2])?)?.gate);
-    Ok(())
-}
-
-#[test]
-fn a_damaged_head_is_refused_at_its_place(rt: HostRuntime) -> Result<(), Fail> {
-    let alloc = rt.alloc();
-    for (at, byte, place) in [
-        (3, 0, 0),
-        (12, 0, 0),
-        (16, 1, 0),
-        (35, 255, 0),
-        (4095, 1, 0),
-        (4128, 1, 4096),
-        (8224, 1, 8192),
-    ] {
-        let head = read_head(alloc, &mut changed(alloc, at, &[byte])?);
-        assert_eq!(rt; head.err(), Some(LogFault::Bad { at: place }));
-    }
     Ok(())
 }
 
@@ -262,69 +161,6 @@ fn the_open_cell_with_the_greater_sequence_counts(rt: HostRuntime) -> Result<(),
         read_head(alloc, &mut disk).err(),
         Some(LogFault::Bad { at: 4096 })
     );
-    Ok(())
-}
-
-#[test]
-fn a_chunk_is_whole_or_damaged_or_not_there(rt: HostRuntime) -> Result<(), Fail> {
-    let alloc = rt.alloc();
-    let past_the_end = b"\x01\xff\xff\xff\xff";
-    let mut disk = changed(alloc, 12296, past_the_end)?;
-    assert_eq!(rt;
-        read_chunk(alloc, &mut disk, 12296).err(),
-        Some(LogFault::Bad { at: 12296 })
-    );
-    disk.cut(12299)?;
-    assert_eq!(rt;
-        read_chunk(alloc, &mut disk, 12296).err(),
-        Some(LogFault::Bad { at: 12296 })
-    );
-    assert_eq!(rt; parts(&read_chunk(alloc, &mut disk, 12299)?), None);
-    assert_eq!(rt; parts(&read_chunk(alloc, &mut disk, 1 << 62)?), None);
-    disk.write_at(12296, &[2])?;
-    assert_eq!(rt; parts(&read_chunk(alloc, &mut disk, 12296)?), None);
-    Ok(())
-}
-
-#[test]
-fn a_log_that_is_not_opened_hands_its_device_back(rt: HostRuntime) -> Result<(), Fail> {
-    let alloc = rt.alloc();
-    for read in 1..=3 {
-        let mut disk = MemDisk::of(alloc, log_of_two(alloc)?.bytes())?;
-        disk.fail_at(read)?;
-        let Err((fault, mut disk)) = Log::open(alloc, disk) else {
-            return Err(Fail::new("the log is opened"));
-        };
-        assert_eq!(rt; fault, LogFault::Fault);
-        assert_eq!(rt;
-            parts(&read_chunk(alloc, &mut disk, 12288)?),
-            Some((b"one".as_slice(), 12296))
-        );
-    }
-    Ok(())
-}
-
-#[test]
-fn chunks_are_found_by_one_read(rt: HostRuntime) -> Result<(), Fail> {
-    let alloc = rt.alloc();
-    let mut disk = MemDisk::of(alloc, log_of_two(alloc)?.bytes())?;
-    disk.fail_at(2)?;
-    disk.fail_at(4)?;
-    let mut window = open_window(alloc, &mut disk)?;
-    let failed = find_chunk(&mut disk, &mut window, 12288);
-    assert_eq!(rt; failed, Err(LogFault::Fault));
-    let one = Part {
-        from: 5,
-        len: 3,
-        next: 12296,
-    };
-    assert_eq!(rt; find_chunk(&mut disk, &mut window, 12288)?, Some(one));
-    let Some(two) = find_chunk(&mut disk, &mut window, 12296)? else {
-        return Err(Fail::new("the chunk is not found"));
-    };
-    assert_eq!(rt; (window.groups(two), two.next), (b"two".as_slice(), 12304));
-    assert_eq!(rt; find_chunk(&mut disk, &mut window, 12304)?, None);
-    assert_eq!(rt; find_chunk(&mut disk, &mut window, 12305)?, None);
     Ok(())
 }
 

@@ -107,12 +107,6 @@ module _ (tells : Bool) (bytes other : List ℕ) (same : IsTrue tells → other 
   of_told (Err NotEmpty) is = is
   of_told (Err Undone) is = is
 
--- all chunks are read
-pub log_ended : (tells : Bool) (bytes : List ℕ) (old mid new : Replay) → ReplaysTo tells bytes old mid → (IsTrue tells → found_in (drop mid.place bytes) ≡ nothing) × (new ≡ mid)
-    → ReplaysTo tells bytes old new × (IsTrue tells → found_in (drop new.place bytes) ≡ nothing)
-log_ended tells bytes old mid new so none =
-    subst (λ (r : Replay). ReplaysTo tells bytes old r × (IsTrue tells → found_in (drop r.place bytes) ≡ nothing)) (sym none.1) (so, none.0)
-
 -- why the chunks of a log are not replayed
 pub log_stopped : (tells : Bool) (bytes : List ℕ) (old mid new : Replay) (fault : OpenFault) → ReplaysTo tells bytes old mid → ReplaysChunk tells (drop mid.place bytes) (Err fault) mid new → ReplaysLog tells bytes (Err fault) old new
 log_stopped tells bytes old mid new (BadLog place) so stopped = λ told. record { last = mid; up_to = subst (λ b. ReplaysTo b bytes old mid) told so; stopped = stopped told }

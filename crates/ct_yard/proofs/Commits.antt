@@ -72,25 +72,6 @@ narrower founded disk group (Err (Halted cause)) old new told is = record {
   why = is.why;
 }
 
--- whether there is room, by the three numbers
-pub room_by_numbers : (number n : ℕ) (flow : Flow) → IsAtRest flow → n ≤ 8000
-    → (nat_lt number (2 ^ 63) && has_room_in flow n) ≡ (nat_lt number (2 ^ 63) && nat_lt flow.next (2 ^ 63) && nat_lt (flow.end + 5 + n) (2 ^ 62))
-room_by_numbers number n flow rest short =
-    let waiting : length flow.waiting ≡ 0 = ap (λ (l : List ℕ). length l) rest.waiting in
-    let taken : chunk_size flow.taken ≡ 0 = ap (λ (l : List ℕ). chunk_size l) rest.taken in
-    let small : nat_lt (length flow.waiting + n) (2 ^ 32) ≡ true = lt-ltb (length flow.waiting + n) (2 ^ 32) (omega (arith, waiting, short)) in
-    let place : flow.end + chunk_size flow.taken + 5 + length flow.waiting + n ≡ flow.end + 5 + n = omega (arith, waiting, taken) in
-    ap (λ (b : Bool). nat_lt number (2 ^ 63) && (b && nat_lt (flow.end + chunk_size flow.taken + 5 + length flow.waiting + n) (2 ^ 62) && nat_lt flow.next (2 ^ 63))) small
-    ∙ ap (λ k. nat_lt number (2 ^ 63) && (nat_lt k (2 ^ 62) && nat_lt flow.next (2 ^ 63))) place
-    ∙ turned (nat_lt number (2 ^ 63)) (nat_lt (flow.end + 5 + n) (2 ^ 62)) (nat_lt flow.next (2 ^ 63))
-  where
-    turned : (a b c : Bool) → (a && (b && c)) ≡ (a && c && b)
-    turned false b c = refl
-    turned true false false = refl
-    turned true false true = refl
-    turned true true false = refl
-    turned true true true = refl
-
 free_cause : (cause : HaltCause) (before now : ℕ) → cause ≡ NoRoom → before ≤ now → HasHaltCause cause before now
 free_cause cause before now is later = subst (λ (why : HaltCause). HasHaltCause why before now) (sym is) later
 
