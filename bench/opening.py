@@ -4,8 +4,8 @@
 Writes logs of ever more commits of one record each, of 8 and of 150 bytes, in the format of
 docs/formats.md. Opens each with `ctisam DIR check`, the program itself and not the script that
 builds it, and reads it with `cat` into /dev/null. Prints the best of five times of each and their
-ratio, once with the file in the page cache and once with it read from the disk, as after a
-restart; beside it the processor time of the opening, which other work does not lengthen.
+ratio, both with the file read from the disk, as after a restart, since an opening never takes it
+from the page cache; beside it the processor time of the opening, which other work does not lengthen.
 
     bench/opening.py [COMMITS ..]
 """
@@ -68,12 +68,11 @@ def forget(path):
         os.posix_fadvise(file.fileno(), 0, 0, os.POSIX_FADV_DONTNEED)
 
 
-def best(words, path, cached):
+def best(words, path):
     """The least time of some runs, the least processor time, and what they printed."""
     times, processor = [], []
     for _ in range(RUNS):
-        if not cached:
-            forget(path)
+        forget(path)
         before = resource.getrusage(resource.RUSAGE_CHILDREN)
         begin = time.monotonic()
         done = subprocess.run(words, check=True, stdout=subprocess.PIPE if words[0] == PROGRAM else subprocess.DEVNULL)
@@ -87,15 +86,13 @@ def measure(count, size):
     with tempfile.TemporaryDirectory(dir=".") as folder:
         path = pathlib.Path(folder) / "log.ct"
         path.write_bytes(log(count, size))
-        for cached in (True, False):
-            read, _, _ = best(["cat", path], path, cached)
-            opened, processor, told = best([PROGRAM, folder, "check"], path, cached)
-            assert told == b"OK %d 1 %d\n" % (count, count - 1), told
-            print(
-                f"{count} commits of {size} bytes from {'the page cache' if cached else 'the disk'}:"
-                f" opened in {opened:.3f} s ({processor:.3f} s of a processor),"
-                f" read by cat in {read:.4f} s, ratio {opened / read:.0f}"
-            )
+        read, _, _ = best(["cat", path], path)
+        opened, processor, told = best([PROGRAM, folder, "check"], path)
+        assert told == b"OK %d 1 %d\n" % (count, count - 1), told
+        print(
+            f"{count} commits of {size} bytes: opened in {opened:.3f} s"
+            f" ({processor:.3f} s of a processor), read by cat in {read:.4f} s, ratio {opened / read:.0f}"
+        )
 
 
 def main():

@@ -1,10 +1,12 @@
 //! A file as a disk.
 //! It keeps the length that the file has by its own calls, and counts each fault.
 
-ghost use Rattle.std.specs.Prelude.{◌≡◌, ◌≤◌, ◌⊎◌, IfOk, max};
-ghost use Rattle.ct_file.specs.Files.{IsFresh};
+ghost use Rattle.std.specs.Prelude.{◌≡◌, ◌+◌, ◌-◌, ◌<◌, ◌≤◌, ◌^◌, ◌⊎◌, IsTrue, IfOk, IsErr, OnOk, OnErr, true, length, drop, min, max};
+ghost use Rattle.ct_disk.specs.Disk.{SizedByWrite, SizedByCut, raised, CountsFault, HasCause};
+ghost use Rattle.ct_file.specs.Files.{IsFresh, StaysLost};
 
 use crate::counts::Counts;
+use crate::limits::most_bytes;
 use ct_disk::{Disk, DiskError, DiskFault};
 use std::fs::File;
 use std::io;
@@ -16,10 +18,17 @@ use std::os::unix::fs::FileExt;
 /// The file is to have no other writer while it is open: its length is asked for once, and kept from
 /// then on. A file that turns out shorter than that fails its reads, and one of another length its
 /// `len`.
+///
+/// After a sync that failed each call fails: some systems count bytes as written which the device
+/// has refused, so that what a read gives from then on may be in their memory alone. A call that
+/// would take the file past the greatest size that this process may give one fails as well, in place
+/// of the signal with which the system would end the process.
 #[derive(Drop)]
 pub struct FileDisk {
     file: File,
     size: u64,
+    limit: u64,
+    is_lost: bool,
     counts: Counts,
 }
 
@@ -30,6 +39,8 @@ impl Model for FileDisk {
 
     ghost view = { λ disk. record {
       size = disk.size;
+      limit = disk.limit;
+      is_lost = disk.is_lost;
       reads = disk.counts.reads;
       calls = disk.counts.calls;
       faults = disk.counts.faults;
@@ -42,15 +53,45 @@ impl FileDisk {
         ensures { IfOk result IsFresh }
     {
         let size = file.metadata()?.len();
+        let limit = most_bytes()?;
         Ok(FileDisk {
             file,
             size,
+            limit,
+            is_lost: false,
             counts: Counts::NONE,
         })
     }
 
+    /// Refuses every call after a sync that failed, and each that goes past the limit.
+    fn allow(&self, end: u64) -> io::Result<()>
+        ensures lost { IsTrue self.now.is_lost → IsErr result }
+        ensures limit { self.now.limit < end → IsErr result }
+    {
+        if self.is_lost {
+            return Err(io::Error::from(io::ErrorKind::Other));
+        }
+        if end > self.limit {
+            return Err(io::Error::from(io::ErrorKind::FileTooLarge));
+        }
+        Ok(())
+    }
+
+    /// Fills `into` with the bytes from this place on.
+    fn read_file(&self, at: u64, into: &mut [u8]) -> io::Result<()>
+        ensures lost { IsTrue self.now.is_lost → IsErr result }
+    {
+        self.allow(0)?;
+        self.file.read_exact_at(into, at)
+    }
+
     /// Writes at this place, behind zeros where the file ends before it.
-    fn write_file(&self, at: u64, bytes: &[u8]) -> io::Result<()> {
+    fn write_file(&self, at: u64, bytes: &[u8]) -> io::Result<()>
+        requires { at + length bytes.now < 2 ^ 64 }
+        ensures lost { IsTrue self.now.is_lost → IsErr result }
+        ensures limit { self.now.limit < at + length bytes.now → IsErr result }
+    {
+        self.allow(at + bytes.len() as u64)?;
         if at > self.size {
             self.set_file_len(at)?;
         }
@@ -59,11 +100,44 @@ impl FileDisk {
 
     /// Cuts the file to this length, or lengthens it with zeros, also over what a write that failed
     /// may have left behind its end.
-    fn set_file_len(&self, len: u64) -> io::Result<()> {
+    fn set_file_len(&self, len: u64) -> io::Result<()>
+        ensures lost { IsTrue self.now.is_lost → IsErr result }
+        ensures limit { self.now.limit < len → IsErr result }
+    {
+        self.allow(len)?;
         if len > self.size {
             self.file.set_len(self.size)?;
         }
         self.file.set_len(len)
+    }
+
+    /// Makes the file's bytes stable.
+    fn flush(&self) -> io::Result<()>
+        ensures lost { IsTrue self.now.is_lost → IsErr result }
+    {
+        self.allow(0)?;
+        self.file.sync_data()
+    }
+
+    /// Makes the file's bytes stable. Where that fails, the disk is lost.
+    fn sync_file(&mut self) -> Result<(), DiskFault>
+        ensures lost { IsTrue self.old.is_lost → IsErr result }
+        ensures ok { OnOk result (self.new ≡ self.old) }
+        ensures err { OnErr result (self.new ≡ record self.old { is_lost = true }) }
+    {
+        if self.flush().is_err() {
+            self.is_lost = true;
+            return Err(DiskFault);
+        }
+        Ok(())
+    }
+
+    /// The length that the system tells.
+    fn file_len(&self) -> io::Result<u64>
+        ensures lost { IsTrue self.now.is_lost → IsErr result }
+    {
+        self.allow(0)?;
+        Ok(self.file.metadata()?.len())
     }
 
     /// The file's length after a write that failed: between the old one and the write's end.
@@ -111,18 +185,34 @@ impl Disk for FileDisk {
 
     ghost faults = { λ disk. disk.faults };
 
-    fn read(&mut self, at: u64, into: &mut [u8]) -> Result<usize, DiskFault> {
+    fn read(&mut self, at: u64, into: &mut [u8]) -> Result<usize, DiskFault>
+        ensures count { IfOk result (λ n. n ≡ min (length into.old) (self.old.size - at)) }
+        ensures rest { let most = min (length into.old) (self.old.size - at) in drop most into.new ≡ drop most into.old }
+        ensures size { self.new.size ≡ self.old.size }
+        ensures reads { self.new.reads ≡ raised self.old.reads }
+        ensures calls { self.new.calls ≡ raised self.old.calls }
+        ensures cause { CountsFault self.old.faults self.new.faults result }
+        ensures lost { StaysLost self.old self.new result }
+    {
         self.counts.read();
         let left = self.size.saturating_sub(at);
         let count = left.min(into.len() as u64) as usize;
-        if self.file.read_exact_at(&mut into[..count], at).is_err() {
+        if self.read_file(at, &mut into[..count]).is_err() {
             self.counts.fault();
             return Err(DiskFault);
         }
         Ok(count)
     }
 
-    fn write_at(&mut self, at: u64, bytes: &[u8]) -> Result<(), DiskError> {
+    fn write_at(&mut self, at: u64, bytes: &[u8]) -> Result<(), DiskError>
+        requires { at + length bytes.now ≤ 2 ^ 62 + 8192 }
+        ensures size { SizedByWrite result at (length bytes.now) self.old.size self.new.size }
+        ensures reads { self.new.reads ≡ self.old.reads }
+        ensures calls { self.new.calls ≡ raised self.old.calls }
+        ensures cause { HasCause self.old.faults self.new.faults result }
+        ensures lost { StaysLost self.old self.new result }
+        ensures limit { self.old.limit < at + length bytes.now → IsErr result }
+    {
         self.counts.call();
         let end = at + bytes.len() as u64;
         if self.write_file(at, bytes).is_err() {
@@ -134,7 +224,14 @@ impl Disk for FileDisk {
         Ok(())
     }
 
-    fn cut(&mut self, len: u64) -> Result<(), DiskError> {
+    fn cut(&mut self, len: u64) -> Result<(), DiskError>
+        ensures size { SizedByCut result len self.old.size self.new.size }
+        ensures reads { self.new.reads ≡ self.old.reads }
+        ensures calls { self.new.calls ≡ raised self.old.calls }
+        ensures cause { HasCause self.old.faults self.new.faults result }
+        ensures lost { StaysLost self.old self.new result }
+        ensures limit { self.old.limit < len → IsErr result }
+    {
         self.counts.call();
         if self.set_file_len(len).is_err() {
             self.counts.fault();
@@ -145,19 +242,33 @@ impl Disk for FileDisk {
         Ok(())
     }
 
-    fn sync(&mut self) -> Result<(), DiskFault> {
+    fn sync(&mut self) -> Result<(), DiskFault>
+        ensures size { self.new.size ≡ self.old.size }
+        ensures reads { self.new.reads ≡ self.old.reads }
+        ensures calls { self.new.calls ≡ raised self.old.calls }
+        ensures cause { CountsFault self.old.faults self.new.faults result }
+        ensures lost { StaysLost self.old self.new result }
+        ensures failed { OnErr result (IsTrue self.new.is_lost) }
+    {
         self.counts.call();
-        if self.file.sync_data().is_err() {
+        if self.sync_file().is_err() {
             self.counts.fault();
             return Err(DiskFault);
         }
         Ok(())
     }
 
-    fn len(&mut self) -> Result<u64, DiskFault> {
+    fn len(&mut self) -> Result<u64, DiskFault>
+        ensures length { IfOk result (λ n. n ≡ self.old.size) }
+        ensures size { self.new.size ≡ self.old.size }
+        ensures reads { self.new.reads ≡ self.old.reads }
+        ensures calls { self.new.calls ≡ raised self.old.calls }
+        ensures cause { CountsFault self.old.faults self.new.faults result }
+        ensures lost { StaysLost self.old self.new result }
+    {
         self.counts.call();
-        match self.file.metadata() {
-            Ok(metadata) if metadata.len() == self.size => Ok(self.size),
+        match self.file_len() {
+            Ok(len) if len == self.size => Ok(self.size),
             _ => {
                 self.counts.fault();
                 Err(DiskFault)

@@ -4,7 +4,9 @@
 
 mod counts;
 mod file_disk;
+mod limits;
 mod read_source;
+mod standard;
 mod store_files;
 #[cfg(test)]
 mod tests;
@@ -12,5 +14,6 @@ mod write_sink;
 
 pub use file_disk::FileDisk;
 pub use read_source::ReadSource;
+pub use standard::hold_standard;
 pub use store_files::{OpenError, StoreFiles, make_folder, open_store};
 pub use write_sink::WriteSink;

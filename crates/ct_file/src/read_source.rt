@@ -51,6 +51,24 @@ impl<R: Read> ReadSource<R> {
     }
 }
 
+/// One read into the block, tried again after each interruption.
+fn read_block<R: Read>(reader: &mut R, block: &mut [u8]) -> io::Result<usize>
+    ensures bound { IfOk result (λ n. n ≤ length block.new) }
+    ensures bytes { ReadConsumes (R.remaining reader.old) (R.remaining reader.new) result block.new }
+{
+    for _ in 0..u64::MAX {
+        match reader.read(block) {
+            Ok(n) => return Ok(n),
+            Err(error) => {
+                if error.kind() != io::ErrorKind::Interrupted {
+                    return Err(error);
+                }
+            }
+        }
+    }
+    Err(io::Error::from(io::ErrorKind::TimedOut))
+}
+
 /// One read into the block, whose bytes are then copied to the front of `into`.
 fn read_through<R: Read>(reader: &mut R, block: &mut [u8], into: &mut [u8]) -> io::Result<usize>
     requires some { 0 < length block.old }
@@ -59,7 +77,7 @@ fn read_through<R: Read>(reader: &mut R, block: &mut [u8], into: &mut [u8]) -> i
     ensures bytes { ReadConsumes (R.remaining reader.old) (R.remaining reader.new) result into.new }
     ensures rest { KeepsRest result into.old into.new }
 {
-    let n = reader.read(block)?;
+    let n = read_block(reader, block)?;
     into[..n].copy_from_slice(&block[..n]);
     Ok(n)
 }

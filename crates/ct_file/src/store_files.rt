@@ -7,6 +7,8 @@ ghost use Rattle.ct_file.specs.Files.{IsFresh};
 use crate::file_disk::FileDisk;
 use std::alloc::{AllocError, Global};
 use std::fs::File;
+use std::os::fd::AsRawFd;
+use std::path::Path;
 use std::rt::Files;
 use std::{fs, io};
 use thiserror::Error;
@@ -51,18 +53,39 @@ pub struct StoreFiles {
     pub log: FileDisk,
 }
 
-/// Makes the folder, whose parent is to be there, unless there is one.
-pub fn make_folder<R: Files>(files: &R, folder: &str) -> Result<(), OpenError>
+/// Makes the folder, whose parent is to be there, unless there is one. The parent is synced, so that
+/// the folder stays in it. Where the folder was there already, a parent that cannot be opened is
+/// left as it is.
+pub fn make_folder<R: Files<File = File>>(files: &R, folder: &str) -> Result<(), OpenError>
     ensures device { IfErr result (λ error. error ≡ OpenError.Device) }
 {
-    match fs::create_dir(files, folder) {
-        Err(error) if error.kind() != io::ErrorKind::AlreadyExists => Err(OpenError::Device),
-        _ => Ok(()),
+    let is_new = match fs::create_dir(files, folder) {
+        Ok(()) => true,
+        Err(error) if error.kind() == io::ErrorKind::AlreadyExists => false,
+        Err(_) => return Err(OpenError::Device),
+    };
+    match File::open(files, parent_of(folder)) {
+        Err(_) if is_new => Err(OpenError::Device),
+        Err(_) => Ok(()),
+        Ok(parent) => match parent.sync_all() {
+            Ok(()) => Ok(()),
+            Err(_) => Err(OpenError::Device),
+        },
+    }
+}
+
+/// The path of the folder in which this path names one.
+fn parent_of(folder: &str) -> Path<'_> {
+    match Path::new(folder).parent() {
+        Some(parent) if !parent.as_str().is_empty() => parent,
+        Some(_) => Path::new("."),
+        None => Path::new("/"),
     }
 }
 
 /// Opens the files `pages.ct` and `log.ct` of a folder, and makes those that are missing, empty.
-/// The log stays locked while it is open, so that a second program on the folder is refused.
+/// The log stays locked while it is open, so that a second program on the folder is refused. The
+/// folder is synced, so that the files stay in it, and the log will be read as its device has it.
 pub fn open_store<R: Files<File = File>>(
     files: &R,
     alloc: Global,
@@ -75,12 +98,23 @@ pub fn open_store<R: Files<File = File>>(
     if log.try_lock().is_err() {
         return Err(OpenError::Device);
     }
+    settle(&log)?;
     let pages = open_file(files, alloc, folder, "pages.ct")?;
     File::open(files, folder)?.sync_all()?;
     Ok(StoreFiles {
         pages: FileDisk::new(pages)?,
         log: FileDisk::new(log)?,
     })
+}
+
+/// Syncs the file and has the system forget what it keeps of its bytes, so that a read gives what the
+/// device has. After a sync of another program that failed, this may be less than the system keeps.
+fn settle(file: &File) -> io::Result<()> {
+    file.sync_all()?;
+    match libc::posix_fadvise(file.as_raw_fd(), 0, 0, libc::POSIX_FADV_DONTNEED) {
+        0 => Ok(()),
+        code => Err(io::Error::from_raw_os_error(code)),
+    }
 }
 
 /// Opens a file of the folder for reading and writing, and makes it where it is missing.

@@ -2,7 +2,7 @@
 
 ghost use Rattle.std.specs.Prelude.{◌+◌, ◌^◌, ◌≤◌, length};
 
-use crate::{OpenError, ReadSource, StoreFiles, WriteSink, make_folder, open_store};
+use crate::{OpenError, ReadSource, StoreFiles, WriteSink, hold_standard, make_folder, open_store};
 use ct_disk::{Disk, DiskError, DiskFault};
 use ct_link::{Source, SourceFault, put_all};
 use std::alloc::Global;
@@ -44,6 +44,7 @@ fn own_folder(rt: &HostRuntime, name: &str) -> io::Result<String> {
 
 #[test]
 fn files_keep_what_is_written(rt: HostRuntime) -> Result<(), Fail> {
+    hold_standard(&rt)?;
     let folder = own_folder(&rt, "kept")?;
     assert_eq!(rt;
         open_store(&rt, rt.alloc(), folder.as_str()).err(),

@@ -1,10 +1,12 @@
 //! A writer as a sink.
 //! It writes once a call, and keeps no byte back.
 
-ghost use Rattle.std.specs.Prelude.{◌≡◌, ◌≤◌};
+ghost use Rattle.std.specs.Prelude.{◌≡◌, ◌≤◌, IfOk, length};
+ghost use Rattle.std.specs.Io.KnownBytes.{WriteAppends};
 ghost use Rattle.ct_link.specs.Faults.{raised};
 
 use ct_link::{Sink, SinkError};
+use std::io;
 use std::io::Write;
 
 /// A writer, as standard output, as a sink. It tells the bytes written where the writer does.
@@ -31,6 +33,24 @@ impl<W: Write> WriteSink<W> {
     }
 }
 
+/// One write, tried again after each interruption.
+fn write_piece<W: Write>(writer: &mut W, bytes: &[u8]) -> io::Result<usize>
+    ensures bound { IfOk result (λ n. n ≤ length bytes.now) }
+    ensures bytes { WriteAppends (W.contents writer.old) (W.contents writer.new) result bytes.now }
+{
+    for _ in 0..u64::MAX {
+        match writer.write(bytes) {
+            Ok(n) => return Ok(n),
+            Err(error) => {
+                if error.kind() != io::ErrorKind::Interrupted {
+                    return Err(error);
+                }
+            }
+        }
+    }
+    Err(io::Error::from(io::ErrorKind::TimedOut))
+}
+
 impl<W: Write> Sink for WriteSink<W> {
     ghost written = { λ sink. W.contents sink.writer };
 
@@ -40,7 +60,7 @@ impl<W: Write> Sink for WriteSink<W> {
         if bytes.is_empty() {
             return Ok(0);
         }
-        match self.writer.write(bytes) {
+        match write_piece(&mut self.writer, bytes) {
             Ok(n) if n > 0 => Ok(n),
             _ => {
                 self.count_fault();

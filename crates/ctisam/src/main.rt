@@ -2,16 +2,18 @@
 //! It prints the cause on standard error where the status is not 0, and ends with the status.
 #![tactic(auto)]
 
-use ct_file::{FileDisk, OpenError, ReadSource, StoreFiles, WriteSink, make_folder, open_store};
+use ct_file::{
+    FileDisk, OpenError, ReadSource, StoreFiles, WriteSink, hold_standard, make_folder, open_store,
+};
 use ct_tool::{Cause, Ended, run_tool};
 use ct_words::{Command, command_of};
-use std::env;
 use std::process::ExitCode;
+use std::{env, io};
 
 fn main(rt: HostRuntime) -> ExitCode {
-    let cause = match arguments(&rt) {
-        Some(words) => run(&rt, words.as_slice()),
-        None => Cause::Memory,
+    let cause = match hold_standard(&rt) {
+        Ok(()) => run(&rt),
+        Err(error) => cause_of(error),
     };
     if !matches!(cause, Cause::Done) {
         let _ = eprintln!(&rt; "{cause}");
@@ -19,23 +21,36 @@ fn main(rt: HostRuntime) -> ExitCode {
     ExitCode::from(cause.status())
 }
 
-/// The folder and the words of the command line, without the program's own name.
-fn arguments(rt: &HostRuntime) -> Option<Vec<String>> {
-    let Ok(arguments) = env::args(rt) else {
-        return None;
+/// Runs the command line.
+fn run(rt: &HostRuntime) -> Cause {
+    match arguments(rt) {
+        Ok(words) => run_words(rt, words.as_slice()),
+        Err(cause) => cause,
+    }
+}
+
+/// The folder and the words of the command line, without the program's own name. Words that are not
+/// UTF-8 are no command.
+fn arguments(rt: &HostRuntime) -> Result<Vec<String>, Cause> {
+    let arguments = match env::args(rt) {
+        Ok(arguments) => arguments,
+        Err(error) if error.kind() == io::ErrorKind::InvalidData => return Err(Cause::Usage),
+        Err(_) => return Err(Cause::Memory),
     };
     let mut words = Vec::new(rt.alloc());
     for word in arguments.skip(1) {
-        words.push(word).ok()?;
+        if words.push(word).is_err() {
+            return Err(Cause::Memory);
+        }
     }
-    Some(words)
+    Ok(words)
 }
 
-/// Runs the words over the files of the folder, which comes first.
-fn run(rt: &HostRuntime, arguments: &[String]) -> Cause {
+/// Runs the words over the files of the folder, which comes first. An empty word names no folder.
+fn run_words(rt: &HostRuntime, arguments: &[String]) -> Cause {
     match arguments {
-        [] => Cause::Usage,
-        [folder, words @ ..] => run_in(rt, folder.as_str(), words),
+        [folder, words @ ..] if !folder.is_empty() => run_in(rt, folder.as_str(), words),
+        _ => Cause::Usage,
     }
 }
 
