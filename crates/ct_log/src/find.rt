@@ -6,7 +6,8 @@ ghost use Rattle.ct_log.specs.Chunks.{BeginsWithChunk};
 ghost use Rattle.ct_log.specs.Front.{zeros};
 ghost use Rattle.ct_log.specs.Reading.{IsRead, IsWindow, Covers, Tells, found_in, groups_in, log_bytes, seen_from};
 
-use crate::read::{FRAME, LogFault, groups_len, has_open_gate, log_end, read_over};
+use crate::places::FRAME;
+use crate::read::{LogFault, groups_len, has_open_gate, log_end, read_over};
 use crate::window::{Part, Window};
 use ct_disk::{Disk, DiskFault};
 use ct_items::Items;

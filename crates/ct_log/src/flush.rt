@@ -7,10 +7,9 @@ ghost use Rattle.ct_log.specs.Log.{IsLog, durable_text, text_after};
 ghost use Rattle.ct_log.specs.Stages.{Stands};
 
 use crate::log::Log;
+use crate::places::OPEN;
 use crate::stage::{FlushAt, Stage};
 use ct_disk::{Disk, DiskError};
-
-const OPEN: u8 = 1;
 
 impl<L: Disk> Log<L> {
     /// Makes one step of a flush: it begins one with all groups that wait, or goes on with the one

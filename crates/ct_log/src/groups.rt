@@ -3,12 +3,10 @@
 ghost use Rattle.std.specs.Prelude.{◌≡◌, ◌<◌, ◌≤◌, ◌+◌, ◌-◌, ◌^◌, [], ◌++◌, length, take, drop, IfOk, OnOk, OnErr};
 ghost use Rattle.ct_log.specs.Chunks.{groups_of, length_bytes, chunk_body, chunk_size};
 
+use crate::places::FRAME;
 use ct_items::NoMemory;
 use std::alloc::Global;
 use std::marker::Model;
-
-/// A chunk's length field and the gate behind its groups.
-const FRAME: usize = 5;
 
 /// The bytes of whole groups, one behind the other, fewer than 2^32.
 #[derive(Drop)]
@@ -44,7 +42,7 @@ impl Groups {
         ensures len { result ≡ length self.now }
         ensures short { length self.now < 2 ^ 32 }
     {
-        self.bytes.len().saturating_sub(FRAME)
+        self.bytes.len().saturating_sub(FRAME as usize)
     }
 
     /// The length of the chunk that they make, without its gate.
@@ -111,6 +109,6 @@ fn close_behind(body: &mut [u8], gate: usize)
         ++ drop (gate + 1) body.old ++ take 1 (drop gate body.old) }
 {
     body[gate..].rotate_left(1);
-    let len = (body.len() - FRAME) as u32;
+    let len = (body.len() - FRAME as usize) as u32;
     body[..4].copy_from_slice(&len.to_le_bytes());
 }

@@ -6,21 +6,11 @@ ghost use Rattle.ct_log.specs.Heads.{TellsHead, TellsCell, head_in, has_open_hea
 ghost use Rattle.ct_log.specs.Reading.{IsRead};
 
 use crate::pages;
+use crate::places::{FIRST_CELL, HEADER_GATE, OPEN, PAGE, SECOND_CELL};
 use crate::read::LogFault;
 use ct_disk::{Disk, DiskFault};
 use ct_items::{Items, NoMemory};
 use std::alloc::Global;
-
-/// Where the header's gate stands.
-pub(crate) const HEADER_GATE: u64 = 36;
-
-/// Where the start cells stand.
-const FIRST_CELL: u64 = 4096;
-
-const SECOND_CELL: u64 = 8192;
-
-/// How long the header and each start cell are.
-const PAGE: usize = 4096;
 
 /// Where a log is read from.
 #[derive(Clone, Copy, Debug, PartialEq, Eq)]
@@ -57,7 +47,7 @@ pub fn has_open_header<L: Disk>(device: &mut L) -> Result<bool, DiskFault>
 {
     let mut gate = [0];
     let count = device.read(HEADER_GATE, &mut gate)?;
-    Ok(count == 1 && gate[0] == 1)
+    Ok(count == 1 && gate[0] == OPEN)
 }
 
 /// Reads the head of a log. `Bad` is the place of a header that is none behind an open gate, or of a start

@@ -13,6 +13,7 @@ mod log;
 mod make;
 mod moves;
 mod pages;
+mod places;
 mod read;
 mod stage;
 mod window;

@@ -12,7 +12,7 @@ ghost use Rattle.ct_log.specs.Log.{IsLog, durable_text};
 use crate::find::{find_chunk, open_window};
 use crate::flow::Flow;
 use crate::head::{Head, read_head};
-use crate::pages::FIRST_CHUNK;
+use crate::places::FIRST_CHUNK;
 use crate::read::LogFault;
 use crate::stage::Stage;
 use crate::window::{Part, Window};

@@ -4,20 +4,8 @@ ghost use Rattle.std.specs.Prelude.{◌≡◌, ◌≤◌, ◌+◌, ◌-◌, ◌^
 ghost use Rattle.ct_disk.specs.Disk.{AllImages, Only, Torn, GoesOn, HasCause};
 ghost use Rattle.ct_log.specs.Front.{zeros, is_id, name_plate, front_with, front};
 
-use crate::head::HEADER_GATE;
+use crate::places::{BASE, FIRST_CHUNK, HEADER_GATE, ID, OPEN, SIGNATURE};
 use ct_disk::{Disk, DiskError};
-
-/// A front of 12,288 bytes and the first chunk's gate.
-const EMPTY_LOG: u64 = 12289;
-
-/// "CTLOGONE" and version 1.
-pub(crate) const SIGNATURE: [u8; 12] = [67, 84, 76, 79, 71, 79, 78, 69, 1, 0, 0, 0];
-
-/// Where the id stands in the header.
-const ID: u64 = 12;
-
-/// Where the base number stands in the header.
-const BASE: u64 = 28;
 
 /// Whether these bytes can be an id: 1 to 16, none of them zero.
 pub fn is_id(id: &[u8]) -> bool
@@ -39,7 +27,7 @@ pub fn make_log<L: Disk>(device: &mut L, id: &[u8], base: u64) -> Result<(), Dis
 {
     device.cut(0)?;
     write_name_plate(device, id, base)?;
-    pad(device, EMPTY_LOG)?;
+    pad(device, FIRST_CHUNK + 1)?;
     device.sync()?;
     Ok(())
 }
@@ -52,9 +40,9 @@ fn write_name_plate<L: Disk>(device: &mut L, id: &[u8], base: u64) -> Result<(),
     ensures cause { HasCause (L.faults device.old) (L.faults device.new) result }
 {
     write_behind(device, 0, &SIGNATURE)?;
-    write_behind(device, ID, id)?;
-    pad(device, BASE)?;
-    write_behind(device, BASE, &base.to_le_bytes())?;
+    write_behind(device, ID as u64, id)?;
+    pad(device, BASE as u64)?;
+    write_behind(device, BASE as u64, &base.to_le_bytes())?;
     Ok(())
 }
 
@@ -92,7 +80,7 @@ pub fn open_gate<L: Disk>(device: &mut L) -> Result<(), DiskError>
         → AllImages (λ c. (gate : ℕ) × (c ≡ front_with gate id base ++ behind)) (L.may_leave device.new) }
     ensures cause { HasCause (L.faults device.old) (L.faults device.new) result }
 {
-    device.write_at(HEADER_GATE, &[1])?;
+    device.write_at(HEADER_GATE, &[OPEN])?;
     device.sync()?;
     Ok(())
 }

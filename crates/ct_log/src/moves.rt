@@ -6,18 +6,10 @@ ghost use Rattle.ct_log.specs.Flow.{has_room, SameFlow, Queued, Took, MovedOn, E
 
 use crate::flow::Flow;
 use crate::groups::Groups;
+use crate::places::{CHUNK_LIMIT, LAST_END, LAST_NUMBER};
 use crate::stage::Stage;
 use ct_items::NoMemory;
 use std::alloc::Global;
-
-/// No chunk has this many bytes of groups.
-const CHUNK_LIMIT: u64 = 1 << 32;
-
-/// No group goes up to this place or behind it.
-const END_LIMIT: u64 = 1 << 62;
-
-/// The last ordinal.
-const LAST_ORDINAL: u64 = 1 << 63;
 
 impl Flow {
     /// A log that ends at this place, with nothing under way.
@@ -54,8 +46,8 @@ impl Flow {
         let end = self.end + self.taken.size() as u64;
         len < CHUNK_LIMIT
             && waiting + len < CHUNK_LIMIT
-            && end + 5 + waiting + len < END_LIMIT
-            && self.next < LAST_ORDINAL
+            && end + 5 + waiting + len < LAST_END
+            && self.next < LAST_NUMBER
     }
 
     /// Lets a group wait. Answers its ordinal.

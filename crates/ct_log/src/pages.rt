@@ -5,30 +5,10 @@ ghost use Rattle.ct_log.specs.Front.{signature};
 ghost use Rattle.ct_log.specs.Heads.{is_open, are_zero, before_zero, number_at, id_field, id_of, is_header, is_cell_open, start_of, is_start, is_cell, first_start, told_by, counting};
 
 use crate::head::Start;
-use crate::make::{SIGNATURE, is_id};
-
-/// Where the first chunk stands, behind the header and the two start cells.
-pub(crate) const FIRST_CHUNK: u64 = 12288;
-
-/// Where a log ends at most, however long its device is.
-pub(crate) const LAST_END: u64 = 1 << 62;
-
-/// The greatest number of a transaction, of a group and of a start cell.
-const LAST_NUMBER: u64 = 1 << 63;
-
-const OPEN: u8 = 1;
-
-/// Where the id stands in a header.
-const ID: usize = 12;
-
-/// Where the base number stands in a header.
-const BASE: usize = 28;
-
-/// Where the zeros of a header begin, behind its gate.
-const HEADER_END: usize = 37;
-
-/// Where the gate of a start cell stands.
-const CELL_GATE: usize = 32;
+use crate::make::is_id;
+use crate::places::{
+    BASE, CELL_GATE, FIRST_CHUNK, HEADER_END, ID, LAST_END, LAST_NUMBER, OPEN, SIGNATURE,
+};
 
 /// Whether the gate at a place is there and open.
 pub(crate) fn is_open(page: &[u8], place: usize) -> bool

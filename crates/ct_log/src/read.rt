@@ -6,16 +6,11 @@ ghost use Rattle.std.specs.Int.{w32, from_le_bytes};
 ghost use Rattle.ct_disk.specs.Disk.{CountsFault, Rose};
 ghost use Rattle.ct_log.specs.Reading.{IsRead};
 
-use crate::pages::LAST_END;
+use crate::places::{LAST_END, OPEN};
 use ct_disk::{Disk, DiskFault};
 use ct_items::{Items, NoMemory};
 use std::alloc::{AllocError, Global};
 use thiserror::Error;
-
-/// A gate and the four bytes of a length behind it.
-pub(crate) const FRAME: u64 = 5;
-
-const OPEN: u8 = 1;
 
 /// Why a log can't be read.
 #[derive(Clone, Copy, Debug, PartialEq, Eq, Error)]
