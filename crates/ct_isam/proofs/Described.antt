@@ -30,25 +30,10 @@ pub too_great_by : (why : Undescribed) (A B : Type 0) → (A → B) → IfTooGre
 too_great_by TooGreat A B more h = more h
 too_great_by Memory A B more h = tt
 
--- lengths that are not valid make a definition not valid
-pub bad_kind : (def : FileDef) → is_valid_kind def.kind ≡ false → is_valid def ≡ false
-bad_kind def fails = and_left _ _ (and_left _ _ (and_left _ _ (and_right _ _ fails)))
-
-least_small : (kind : Kind) → is_valid_kind kind ≡ true → least_len kind ≤ LONGEST_IMAGE
-least_small (Fixed len) valid = grind (arith, nat_tests)
-least_small (Variable min max) valid = grind (arith, nat_tests)
-
-pub long_variable : (min max : ℕ) → (LONGEST_IMAGE < min) ⊎ (LONGEST_IMAGE < max) → is_valid_kind (Variable min max) ≡ false
-long_variable min max (inr long) = and_right (leb 1 min && leb min max) (leb max LONGEST_IMAGE) (lt-leb _ _ long)
-long_variable min max (inl long) = grind (arith, nat_tests)
-
 -- ---- why a file is not made
 
 pub there : (state : State) (def : FileDef) → has_name state def.name ≡ true → create_refusal state def ≡ Some exists
 there state def named = rw named refl
-
-pub not_valid : (state : State) (def : FileDef) → has_name state def.name ≡ false → is_valid def ≡ false → create_refusal state def ≡ Some bad_def
-not_valid state def named valid = rw (named, valid) refl
 
 pub full : (state : State) (def : FileDef) → has_name state def.name ≡ false → is_valid def ≡ true → MOST_FILES ≤ length state → create_refusal state def ≡ Some file_full
 full state def named valid many = rw (named, valid, le-ltb (length state) MOST_FILES many) refl

@@ -36,20 +36,6 @@ by_number : (pair : Option Pair) (rows : List Row) → row_of pair rows ≡ row_
 by_number None rows = refl
 by_number (Some pair) rows = refl
 
--- or why it was refused
-pub walk_refused : (finder : Option Finder) (index : IndexDef) (rows : List Row) (seat : Seat) (reply : Told) → IsFoundBy finder index rows (Err reply) → IsRefusal (walk_by finder index rows seat) reply
-walk_refused finder index rows seat reply (inl memory) = inl memory
-walk_refused finder index rows seat reply (inr h) =
-    inr (λ seats. ap (λ (f : Option Finder). walk_by f index rows seat) h.1 ∙ ap (λ (r : Told). refused (reply_of seats r)) (sym h.0))
-
-seats_alike : (kind : Search) (place : ℕ) (key : List ℕ) (seat : Seat) → seat_for kind place key seat ≡ seat_with (set_of kind place key) seat
-seats_alike searches.Get place key seat = refl
-seats_alike searches.Gte place key seat = refl
-seats_alike searches.Gt place key seat = refl
-seats_alike searches.Lte place key seat = refl
-seats_alike searches.Lt place key seat = refl
-seats_alike searches.FirstSet place key seat = refl
-
 -- a refusal shown
 pub refusal_looks : (outcome : Outcome) (reply : Told) (seats : List Seat) → IsRefusal outcome reply → Looks outcome seats (reply_of seats reply) seats
 refusal_looks outcome reply seats (inl memory) = inl (ap (reply_of seats) memory, refl)

@@ -81,11 +81,6 @@ add_replies name image f num found machine next seats reply new_seats named at f
     (at_none (add_refusal image found) ((n : ℕ) × Writes (Add f n image) n machine seats (with_current f (record { num = n; image = image }) seats) reply next new_seats)
     (λ refusal. Tells refusal machine seats reply next new_seats) fine (num, writes))))
 
-add_unnamed : (name image : List ℕ) (machine : Machine) (seats : List Seat) (reply : Told) → IsUnnamed name (state_of machine) reply → Replies (calls.Add name image) machine seats (reply_of seats reply) machine seats
-add_unnamed name image machine seats reply (inl memory) = inl (ap (reply_of seats) memory, refl, refl)
-add_unnamed name image machine seats reply (inr h) =
-    inr (subst (λ (o : Option ℕ). Adds o image machine seats (reply_of seats reply) machine seats) (sym h.1) (ap (reply_of seats) h.0, refl, refl))
-
 add_refused : (name image : List ℕ) (f : ℕ) (found : File) (machine : Machine) (seats : List Seat) (reply : Told)
     → file_named name (state_of machine) ≡ Some f → slice_get (state_of machine) f ≡ Some found → IsRefusedBy (add_refusal image found) reply
     → Replies (calls.Add name image) machine seats (reply_of seats reply) machine seats
@@ -117,14 +112,6 @@ made_not file def machine next seats NoRoom same fine commits = inl (refl, commi
 made_not file def machine next seats (Halted cause) same fine commits =
     create_replies file def machine next seats (halt_err cause) same fine
     (allows_make (state_of machine) def fine, inr (record { cause = cause; reply_is = refl; halted = commits; session = refl }))
-
-create_refused : (file : NewFile) (machine : Machine) (seats : List Seat) (reply : Told) → IsRefusedBy (create_refusal (state_of machine) (described file)) reply
-    → Replies (calls.Create file) machine seats (reply_of seats reply) machine seats
-create_refused file machine seats reply (inl memory) = inl (ap (reply_of seats) memory, refl, refl)
-create_refused file machine seats reply (inr reason) =
-    inr (at_some (create_refusal (state_of machine) (described file)) (reply_of seats reply)
-    (Writes (Make (length (state_of machine)) (described file)) (last_number machine.history) machine seats seats (reply_of seats reply) machine seats)
-    (λ refusal. Tells refusal machine seats (reply_of seats reply) machine seats) (reason seats) (refl, refl, refl))
 
 -- ---- the yards that stand for the machines
 

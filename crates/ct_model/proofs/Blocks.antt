@@ -119,26 +119,6 @@ pub record UsedTo (block place : ℕ) (rows rest : List Row) : Type 0 where
   pub used : (at : ℕ) → 1 ≤ at → block * 128 ≤ at → at < block * 128 + place → is_none (row_at at rows) ≡ false
   pub behind : (num : ℕ) → block * 128 + place ≤ num → row_at num rows ≡ row_at num rest
 
-rise_first : (block place : ℕ) (rows : List Row) → place ≡ (if block == 0 then 1 else 0) → list_all (λ row. block_of row.num == block) rows ≡ true → rise_above 0 rows ≡ true → rise_from (block * 128 + place) rows ≡ true
-rise_first block place [] first within rise = refl
-rise_first block place (row ∷ rows) first within rise =
-    let own : block_of row.num ≡ block = grind (arith, nat_tests) in
-    let least : 1 ≤ row.num = grind (arith, nat_tests) in
-    let start : block * 128 ≤ row.num = omega arith in
-    let low : block * 128 + place ≤ row.num = grind (arith, nat_tests) in
-    grind (arith, nat_tests)
-
--- at first none is looked at
-pub none_used : (block place : ℕ) (rows : List Row) → place ≡ (if block == 0 then 1 else 0) → list_all (λ row. block_of row.num == block) rows ≡ true → rise_above 0 rows ≡ true → UsedTo block place rows rows
-none_used block place rows first within rise = record {
-  low = grind (arith, nat_tests);
-  few = grind (arith, nat_tests);
-  rising = rise_first block place rows first within rise;
-  within = within;
-  used = λ at least start end. absurd (grind (arith, nat_tests));
-  behind = λ num high. refl;
-}
-
 -- a record stands within its block
 pub place_within : (block place : ℕ) (rows rest : List Row) (row : Row) → UsedTo block place rows (row ∷ rest) → block * 128 + place ≤ row.num × (row.num < block * 128 + 128)
 place_within block place rows rest row used =
@@ -147,48 +127,8 @@ place_within block place rows rest row used =
     let own : block_of row.num ≡ block = grind (arith, nat_tests) in
     (grind (arith, nat_tests), omega arith)
 
-rise_from_above : (last next : ℕ) (rows : List Row) → next ≡ last + 1 → rise_above last rows ≡ true → rise_from next rows ≡ true
-rise_from_above last next [] same rise = refl
-rise_from_above last next (row ∷ rows) same rise = grind (arith, nat_tests)
-
 behind_row : (at : ℕ) (row : Row) (rest : List Row) → (row.num == at) ≡ false → row_at at (row ∷ rest) ≡ row_at at rest
 behind_row at row rest other = rw other refl
-
-own_row : (at : ℕ) (row : Row) (rest : List Row) → (row.num == at) ≡ true → row_at at (row ∷ rest) ≡ Some row
-own_row at row rest own = rw own refl
-
-used_more : (block place at : ℕ) (rows rest : List Row) (row : Row) → UsedTo block place rows (row ∷ rest) → row.num ≡ block * 128 + place → 1 ≤ at → block * 128 ≤ at → at < block * 128 + (place + 1) → (here : Bool) → (row.num == at) ≡ here → is_none (row_at at rows) ≡ false
-used_more block place at rows rest row used same least start end true here =
-    let at_row : row.num ≡ at = grind (arith, nat_tests) in
-    ap is_none (used.behind at (omega arith) ∙ own_row at row rest here)
-used_more block place at rows rest row used same least start end false here =
-    let other : row.num ≢ at = grind (arith, nat_tests) in
-    used.used at least start (omega arith)
-
--- the next number is used by the next record
-pub one_more_used : (block place : ℕ) (rows rest : List Row) (row : Row) → UsedTo block place rows (row ∷ rest) → row.num ≡ block * 128 + place → UsedTo block (place + 1) rows rest
-one_more_used block place rows rest row used same =
-    let bounds = place_within block place rows rest row used in
-    let rising : rise_from (block * 128 + place) (row ∷ rest) ≡ true = used.rising in
-    let above : rise_above row.num rest ≡ true = grind arith in
-    let within : list_all (λ (other : Row). block_of other.num == block) (row ∷ rest) ≡ true = used.within in
-    record {
-      low = let low = used.low in omega arith;
-      few = omega (arith, bounds.1);
-      rising = rise_from_above row.num (block * 128 + (place + 1)) rest (omega arith) above;
-      within = grind arith;
-      used = λ at least start end. used_more block place at rows rest row used same least start end (row.num == at) refl;
-      behind = λ num high.
-          let other : (row.num == num) ≡ false = grind (arith, nat_tests) in
-          used.behind num (omega arith) ∙ behind_row num row rest other;
-    }
-
--- the same of a row that was read
-pub one_more_read : (block place i : ℕ) (rows : List Row) (row : Row) → UsedTo block place rows (drop i rows) → i < length rows → row ≡ get_or rows i row → row.num ≡ block * 128 + place → UsedTo block (place + 1) rows (drop (i + 1) rows)
-one_more_read block place i rows row used within is same =
-    let e : i + 1 ≡ suc i = omega arith in
-    let here : drop i rows ≡ row ∷ drop (suc i) rows = drop-cons rows i row within ∙ ap (λ (first : Row). first ∷ drop (suc i) rows) (sym is) in
-    rw e (one_more_used block place rows (drop (suc i) rows) row (rw here at used) same)
 
 pub read_within : (block place i : ℕ) (rows : List Row) (row : Row) → UsedTo block place rows (drop i rows) → i < length rows → row ≡ get_or rows i row → block * 128 + place ≤ row.num × (row.num < block * 128 + 128)
 read_within block place i rows row used within is =
@@ -215,12 +155,6 @@ drop_all [] (suc i) past = refl
 drop_all (row ∷ rows) zero past = absurd (omega arith)
 drop_all (row ∷ rows) (suc i) past = drop_all rows i (omega arith)
 
--- and so is the next number where no record is left
-pub end_read : (block place i : ℕ) (rows : List Row) → UsedTo block place rows (drop i rows) → length rows ≤ i → is_none (row_at (block * 128 + place) rows) ≡ true
-end_read block place i rows used past =
-    let none : drop i rows ≡ [] = drop_all rows i past in
-    ap is_none (used.behind (block * 128 + place) (omega arith) ∙ ap (row_at (block * 128 + place)) none)
-
 -- ---- which numbers of a block are free
 
 -- the numbers that a block's records have are not free
@@ -244,9 +178,3 @@ gap_found block place i rows row used within is other =
 
 pub gap_lowest : (block place : ℕ) (rows rest : List Row) → UsedTo block place rows rest → (lower : ℕ) → 1 ≤ lower → lower < block * 128 + place → block_of lower ≡ block → is_none (row_at lower rows) ≡ false
 gap_lowest block place rows rest used lower least below here = used.used lower least (omega arith) below
-
-pub end_found : (block place i : ℕ) (rows : List Row) → UsedTo block place rows (drop i rows) → length rows ≤ i → place < 128 → 1 ≤ block * 128 + place × (block_of (block * 128 + place) ≡ block) × (is_none (row_at (block * 128 + place) rows) ≡ true)
-end_found block place i rows used past few = (used.low, omega arith, end_read block place i rows used past)
-
-pub all_used : (block place : ℕ) (rows rest : List Row) → UsedTo block place rows rest → 128 ≤ place → (num : ℕ) → 1 ≤ num → block_of num ≡ block → is_none (row_at num rows) ≡ false
-all_used block place rows rest used many num least here = used.used num least (omega arith) (omega arith)

@@ -39,7 +39,3 @@ full_not_free block len used rows is short full num here image same = not_free_o
 -- where it has the room a number that no record has is free
 pub unused_free : (block len used : ℕ) (rows : List Row) → used ≡ min (block_use block rows) (2 ^ 64 - 1) → len ≤ 3840 → used ≤ 3968 - 8 - len → (num : ℕ) → block_of num ≡ block → is_none (row_at num rows) ≡ true → IsFree num len rows
 unused_free block len used rows is short room num here unused image same = is_free-unused num image rows unused ∙ rw (here, same) (grind (arith, nat_tests))
-
-pub found_free : (found : Option ℕ) (block len used : ℕ) (rows : List Row) → used ≡ min (block_use block rows) (2 ^ 64 - 1) → len ≤ 3840 → used ≤ 3968 - 8 - len → IfSome found (λ num. 1 ≤ num × (block_of num ≡ block) × (is_none (row_at num rows) ≡ true)) → IfSome found (λ num. 1 ≤ num × (block_of num ≡ block) × IsFree num len rows)
-found_free None block len used rows is short room found = tt
-found_free (Some num) block len used rows is short room found = (found.0, found.1, unused_free block len used rows is short room num found.1 found.2)

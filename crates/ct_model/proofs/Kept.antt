@@ -54,10 +54,6 @@ added file cache new rows after stored fits least free is bound full pairs = rec
 pub added_apart : (file : File) (cache : Cache) (new : Row) → IsStored file cache → row_at new.num file.records ≡ None → AreApart file.def.indexes new cache.pairs.items
 added_apart file cache new stored free = subst (AreApart file.def.indexes new) (sym stored.pairs) (apart_each file.def.indexes new file.records free)
 
--- a record that was put in and taken out again
-pub added_back : (file : File) (new : Row) (rows back : List Row) → row_at new.num file.records ≡ None → rows ≡ with_row new file.records → back ≡ without_row new.num rows → back ≡ file.records
-added_back file new rows back free is taken = taken ∙ ap (without_row new.num) is ∙ without_row-with_row new file.records free
-
 -- a file with the same records and pairs
 pub unchanged : (file : File) (cache : Cache) (rows : List Row) (after : Cache) → IsStored file cache → rows ≡ file.records → after.full_below ≡ cache.full_below → after.pairs.items ≡ cache.pairs.items → IsStored (with_records file rows) after
 unchanged file cache rows after stored same below pairs = record {
@@ -106,10 +102,6 @@ not_rewritten file num image none = ap (with_records file) (sym (none-with_image
 
 pub not_deleted : (file : File) (num : ℕ) → image_at num file.records ≡ None → file ≡ with_records file (without_row num file.records)
 not_deleted file num none = ap (with_records file) (sym (none-without_row num file.records (no_row_at num file.records none)))
-
--- the images of a fitting file's least length can be stored
-pub least_stored : (file : File) → is_fitting file ≡ true → least_len file.def.kind ≤ 3840
-least_stored file fitting = least_short file.def.kind (grind arith)
 
 -- no image of a fitting file is longer than its greatest length
 pub none_longer_stored : (file : File) → is_fitting file ≡ true → list_all (λ row. nat_le (length row.image) (longest_len file.def.kind)) file.records ≡ true

@@ -90,11 +90,6 @@ last_tells key p rows last rise is below = by_last (p last) refl
 abbrev pub place : ℕ → List Row → ℕ
 place num rows = prefix_len (λ row. nat_lt row.num num) rows
 
--- before a higher number stands none
-place_low : (last num : ℕ) (rows : List Row) → rise_above last rows ≡ true → num ≤ last → place num rows ≡ 0
-place_low last num [] rise low = refl
-place_low last num (row ∷ rows) rise low = grind (arith, nat_tests)
-
 row_at_low : (last num : ℕ) (rows : List Row) → rise_above last rows ≡ true → num ≤ last → row_at num rows ≡ None
 row_at_low last num [] rise low = refl
 row_at_low last num (row ∷ rows) rise low = grind (arith, nat_tests, row_at_low row.num num rows)

@@ -124,6 +124,3 @@ pub found_within : (state : State) (file : ℕ) (found : File) → Some found �
 found_within [] file found is = absurd (cc)
 found_within (f ∷ state) zero found is = omega arith
 found_within (f ∷ state) (suc file) found is = let rest = found_within state file found is in omega arith
-
-pub passes_found : (state : State) (file : ℕ) (found : File) (test : File → Bool) → Some found ≡ slice_get state file → passes (slice_get state file) test ≡ test found
-passes_found state file found test is = ap (λ (f : Option File). passes f test) (sym is)

@@ -106,11 +106,3 @@ module _ (tells : Bool) (bytes other : List ℕ) (same : IsTrue tells → other 
   of_told (Err Device) is = tt
   of_told (Err NotEmpty) is = is
   of_told (Err Undone) is = is
-
--- why the chunks of a log are not replayed
-pub log_stopped : (tells : Bool) (bytes : List ℕ) (old mid new : Replay) (fault : OpenFault) → ReplaysTo tells bytes old mid → ReplaysChunk tells (drop mid.place bytes) (Err fault) mid new → ReplaysLog tells bytes (Err fault) old new
-log_stopped tells bytes old mid new (BadLog place) so stopped = λ told. record { last = mid; up_to = subst (λ b. ReplaysTo b bytes old mid) told so; stopped = stopped told }
-log_stopped tells bytes old mid new Memory so is = tt
-log_stopped tells bytes old mid new Device so is = tt
-log_stopped tells bytes old mid new NotEmpty so is = is
-log_stopped tells bytes old mid new Undone so is = is

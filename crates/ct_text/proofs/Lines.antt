@@ -55,10 +55,6 @@ begins_split line rest e =
       stops = run.1;
     })
 
-pub no_word_ends : (rest : List ℕ) → rest ≢ [] → HasNoSpace rest → is_parted rest ≡ false
-no_word_ends [] some h = absurd (some refl)
-no_word_ends (b ∷ rest) some h = h
-
 -- the word at the front of a text, and the words of what follows it
 next_words : (rest bytes : List ℕ) (at len : ℕ) (words : List Word) → TakesWord rest bytes len → HasWords (at + len) (drop len rest) words
     → HasWords at rest ((record { bytes = bytes; at = at }) ∷ words)

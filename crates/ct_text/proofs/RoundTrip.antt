@@ -45,10 +45,6 @@ piece_ends (m ∷ h ∷ []) byte s e = s
 piece_ends (m ∷ h ∷ l ∷ []) byte s e = digit_no_space l s.2 e
 piece_ends (m ∷ h ∷ l ∷ x ∷ piece) byte s e = s
 
-piece_some : (piece : List ℕ) (byte : ℕ) → StandsFor piece byte → piece ≢ []
-piece_some [] byte s e = s
-piece_some (b ∷ piece) byte s e = absurd cc
-
 -- a word ends with no space
 word_ends : (body : List ℕ) (byte : ℕ) (bytes : List ℕ) → Spells body (byte ∷ bytes) → IsPartedBehind body → ⊥
 word_ends body byte [] s h = piece_ends s.0 byte s.3 (let e : body ≡ s.0 = s.2 ∙ ap (λ (l : List ℕ). s.0 ++ l) s.4 ∙ append-nil s.0 in rw e at h)

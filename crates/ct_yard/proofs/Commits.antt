@@ -72,9 +72,6 @@ narrower founded disk group (Err (Halted cause)) old new told is = record {
   why = is.why;
 }
 
-free_cause : (cause : HaltCause) (before now : ℕ) → cause ≡ NoRoom → before ≤ now → HasHaltCause cause before now
-free_cause cause before now is later = subst (λ (why : HaltCause). HasHaltCause why before now) (sym is) later
-
 -- a history with one transaction more is another one
 is_longer : (history : History) (change : Change) → with_change history change ≡ history → ⊥
 is_longer history change same =
