@@ -1,0 +1,3 @@
+mod Besides
+mod Effects
+mod Keeping

@@ -1,0 +1,2 @@
+pub mod Apart
+pub use Rattle.ct_definitions.specs.Histories
