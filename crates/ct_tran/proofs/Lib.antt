@@ -1,1 +1,3 @@
+mod Merging
+mod Overlaying
 mod Saves
