@@ -1,8 +1,9 @@
-//! A transaction that goes back to a savepoint, and both of its limits.
+//! A transaction that goes back to a savepoint, both of its limits, and searches beside own changes.
 
 use super::*;
 use ct_definitions::{Bytes, Change};
 use ct_items::{Items, NoMemory};
+use ct_pairs::{Pair, Pairs, Seek};
 
 fn image(rt: &HostRuntime, len: usize) -> Result<Bytes, NoMemory> {
     Ok(Items::from_vec(Vec::from_elem(rt.alloc(), b'a', len)?))
@@ -50,5 +51,31 @@ fn the_longest_images_fill_it_before_its_count(rt: HostRuntime) -> Result<(), No
     assert_eq!(rt; own.add(add(&rt, 2176, 3840)?), Err(OwnFault::Full));
     own.drop_all();
     assert_eq!(rt; own.add(add(&rt, 1, 3840)?).is_ok(), true);
+    Ok(())
+}
+
+fn pair(rt: &HostRuntime, key: &[u8], num: u64) -> Result<Pair, NoMemory> {
+    Pair::new(rt.alloc(), key, num)
+}
+
+#[test]
+fn a_search_passes_over_what_is_taken_and_finds_what_is_put(
+    rt: HostRuntime,
+) -> Result<(), NoMemory> {
+    let mut shared = Pairs::new(rt.alloc());
+    shared.put(pair(&rt, b"b", 1)?)?;
+    shared.put(pair(&rt, b"d", 2)?)?;
+    let mut own = Overlay::new(rt.alloc());
+    own.take(pair(&rt, b"b", 1)?)?;
+    own.put(pair(&rt, b"c", 7)?)?;
+    own.put(pair(&rt, b"e", 8)?)?;
+    own.take(pair(&rt, b"e", 8)?)?;
+    assert_eq!(rt; own.passes_over(&pair(&rt, b"b", 1)?), true);
+    let first = own.chosen(Seek::First, shared.find(Seek::Above(b"b")));
+    assert_eq!(rt; first.is_some_and(|found| found.num() == 7), true);
+    let last = own.chosen(Seek::Last, shared.find(Seek::Last));
+    assert_eq!(rt; last.is_some_and(|found| found.num() == 2), true);
+    own.put(pair(&rt, b"b", 1)?)?;
+    assert_eq!(rt; own.passes_over(&pair(&rt, b"b", 1)?), false);
     Ok(())
 }
