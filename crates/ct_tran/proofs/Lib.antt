@@ -1,0 +1,3 @@
+mod Merging
+mod Overlaying
+mod Saves
