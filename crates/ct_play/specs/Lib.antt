@@ -1,0 +1,1 @@
+pub use Rattle.ct_lane.specs.Actors
