@@ -72,8 +72,11 @@ impl Actor<Jar> for Taker {
             self.waits = true;
             return Turn::More;
         }
+        let Some(taken) = jar.taken.checked_add(1) else {
+            return Turn::Refused(StepFault::Memory);
+        };
         jar.coins -= 1;
-        jar.taken += 1;
+        jar.taken = taken;
         Turn::Done(())
     }
 }
