@@ -1,3 +1,4 @@
 mod Besides
 mod Effects
 mod Keeping
+mod Staying

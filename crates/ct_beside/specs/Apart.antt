@@ -61,3 +61,8 @@ pub record AreApart (state : State) (own others : List Change) : Type 0 where
       → IsAmong image (all_puts file own) → IsAmong other (all_puts file others) → share_key f.def.indexes image other ≡ false
   pub room : (file block : ℕ) (f : File) → slice_get state file ≡ Some f
       → block_use block f.records + growth file block own + growth file block others ≤ BLOCK_ROOM
+
+-- Each block has room for what three lists of changes may add to it.
+pub record HasRoomForAll (state : State) (first second third : List Change) : Type 0 where
+  pub room : (file block : ℕ) (f : File) → slice_get state file ≡ Some f
+      → block_use block f.records + growth file block first + growth file block second + growth file block third ≤ BLOCK_ROOM
