@@ -1,1 +1,2 @@
+pub mod Orders
 pub use Rattle.ct_lane.specs.Actors

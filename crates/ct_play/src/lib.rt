@@ -1,8 +1,10 @@
-//! Turns of several actors by a schedule, one after another.
+//! Turns of several actors by a schedule, one after another, and the lines in which a schedule is given.
 #![tactic(auto)]
 
+mod order;
 mod schedule;
 
+pub use order::{Order, read_order};
 pub use schedule::play;
 
 #[cfg(test)]

@@ -1,4 +1,4 @@
-//! Two kinds of actors by a schedule: some add to a tally, others take coins from a jar.
+//! Two kinds of actors by a schedule: some add to a tally, others take coins from a jar. Lines of a schedule.
 
 use super::*;
 use ct_disk::{StepFault, Turn};
@@ -120,4 +120,31 @@ fn turns_go_on_where_nothing_is_left(rt: HostRuntime) {
     play(&mut jar, &mut takers, &[1, 0, 1]);
     assert_eq!(rt; jar.taken, 100);
     assert_eq!(rt; takers[1].waits, true);
+}
+
+#[test]
+fn lines_of_a_schedule_are_read(rt: HostRuntime) {
+    let queued = read_order(b"S 1 GET part id");
+    assert_eq!(rt;
+        matches!(
+            queued,
+            Some(Order::Queue {
+                session: 1,
+                line: b"GET part id"
+            })
+        ),
+        true
+    );
+    let turns = read_order(b"T 64 1048576");
+    assert_eq!(rt;
+        matches!(
+            turns,
+            Some(Order::Turns {
+                session: 64,
+                count: Some(1_048_576)
+            })
+        ),
+        true
+    );
+    assert_eq!(rt; read_order(b"X 1").is_none(), true);
 }
