@@ -1,15 +1,25 @@
 //! A transaction that goes back to a savepoint, both of its limits, and searches beside own changes.
 
+ghost use Rattle.std.specs.Prelude.{◌≡◌, ◌<◌, ◌^◌, true, length, IfOk};
+ghost use Rattle.ct_change_codec.specs.ChangeFormat.{LengthsFit};
+ghost use Rattle.ct_tran.specs.Owned.{is_of_record};
+
 use super::*;
 use ct_definitions::{Bytes, Change};
 use ct_items::{Items, NoMemory};
 use ct_pairs::{Pair, Pairs, Seek};
 
-fn image(rt: &HostRuntime, len: usize) -> Result<Bytes, NoMemory> {
+fn image(rt: &HostRuntime, len: usize) -> Result<Bytes, NoMemory>
+    ensures { IfOk result (λ image. length image ≡ len) }
+{
     Ok(Items::from_vec(Vec::from_elem(rt.alloc(), b'a', len)?))
 }
 
-fn add(rt: &HostRuntime, num: u64, len: usize) -> Result<Change, NoMemory> {
+fn add(rt: &HostRuntime, num: u64, len: usize) -> Result<Change, NoMemory>
+    requires { len < 2 ^ 32 }
+    ensures record { IfOk result (λ change. is_of_record change ≡ true) }
+    ensures fits { IfOk result (λ change. LengthsFit change) }
+{
     Ok(Change::Add {
         file: 0,
         num,
@@ -18,7 +28,9 @@ fn add(rt: &HostRuntime, num: u64, len: usize) -> Result<Change, NoMemory> {
 }
 
 /// A transaction of so many records of this length.
-fn filled(rt: &HostRuntime, count: u64, len: usize) -> Result<Own, NoMemory> {
+fn filled(rt: &HostRuntime, count: u64, len: usize) -> Result<Own, NoMemory>
+    requires { len < 2 ^ 32 }
+{
     let mut own = Own::new(rt.alloc());
     for num in 0..count {
         if own.add(add(rt, num, len)?).is_err() {
