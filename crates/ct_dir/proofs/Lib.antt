@@ -1,3 +1,4 @@
 pub mod Files
 pub mod Entries
 pub mod Slots
+pub mod Repositions

@@ -1,3 +1,4 @@
 pub mod Directory
 pub mod DefinitionPage
 pub mod MapPage
+pub mod Grammar

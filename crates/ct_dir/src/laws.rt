@@ -2,9 +2,11 @@
 
 ghost use Rattle.std.specs.Prelude.{◌≡◌, ◌≢◌, ◌<◌, ◌≤◌, ◌+◌, ◌*◌, List, ℕ, length};
 ghost use Rattle.ct_page.specs.Fields.{with_u64};
+ghost use Rattle.ct_page.specs.Headers.{IsPage, with_position};
 ghost use Rattle.ct_dir.specs.Directory.{page_count, file_count, file_page, with_page_count, with_file};
 ghost use Rattle.ct_dir.specs.DefinitionPage.{map_place, root_place, leaf_place, first_map_of, root_of, first_leaf_of};
-ghost use Rattle.ct_dir.specs.MapPage.{entry_at, with_block};
+ghost use Rattle.ct_dir.specs.MapPage.{entry_count, entry_at, with_block};
+ghost use Rattle.ct_dir.specs.Grammar.{is_directory_page, is_definition_page, is_map_page};
 ghost use Rattle.ct_dir.specs.declared.map.MapEntry.{MapEntry};
 
 /// The count of pages and the files of a directory.
@@ -40,4 +42,23 @@ pub fn definition_fields_are_apart()
 pub fn map_entries_are_apart()
     ensures { (at other : ℕ) (entry : MapEntry) (page : List ℕ) → length page ≡ 4096 → at < 396 → other ≢ at
         → entry_at other (with_block at entry page) ≡ entry_at other page }
+{}
+
+/// A page with another position tells the same.
+pub fn positions_keep_fields()
+    ensures pages { (position : ℕ) (page : List ℕ) → IsPage page → page_count (with_position position page) ≡ page_count page }
+    ensures files { (position : ℕ) (page : List ℕ) → IsPage page → file_count (with_position position page) ≡ file_count page }
+    ensures file { (position file : ℕ) (page : List ℕ) → IsPage page → file_page (with_position position page) file ≡ file_page page file }
+    ensures map { (position len : ℕ) (page : List ℕ) → IsPage page → first_map_of (with_position position page) len ≡ first_map_of page len }
+    ensures root { (position len index : ℕ) (page : List ℕ) → IsPage page → root_of (with_position position page) len index ≡ root_of page len index }
+    ensures leaf { (position len index : ℕ) (page : List ℕ) → IsPage page → first_leaf_of (with_position position page) len index ≡ first_leaf_of page len index }
+    ensures entries { (position : ℕ) (page : List ℕ) → IsPage page → entry_count (with_position position page) ≡ entry_count page }
+    ensures entry { (position at : ℕ) (page : List ℕ) → IsPage page → entry_at at (with_position position page) ≡ entry_at at page }
+{}
+
+/// A page with another position is of its kind where it was, and nowhere else.
+pub fn positions_keep_pages()
+    ensures directory { (position : ℕ) (page : List ℕ) → IsPage page → is_directory_page (with_position position page) ≡ is_directory_page page }
+    ensures definition { (position len : ℕ) (page : List ℕ) → IsPage page → is_definition_page len (with_position position page) ≡ is_definition_page len page }
+    ensures map { (position : ℕ) (page : List ℕ) → IsPage page → is_map_page (with_position position page) ≡ is_map_page page }
 {}

@@ -1,11 +1,11 @@
 //! Frames over a device of pages.
 
-ghost use Rattle.std.specs.Prelude.{◌≡◌, ◌≤◌, ◌<◌, ◌^◌, ◌++◌, [], ◌∷◌, ℕ, List, All, map, Some, None, IsSome, IsTrue, IfErr, OnOk, OnErr, IsErrOf, MatchOption};
+ghost use Rattle.std.specs.Prelude.{◌≡◌, ◌≤◌, ◌<◌, ◌^◌, ◌++◌, [], ◌∷◌, ℕ, List, All, map, Some, None, IsSome, IsTrue, IfErr, OnOk, OnErr, IsErrOf, MatchOption, replicate};
 ghost use Rattle.ct_disk.specs.Disk.{GoesOn, Only, unchanged, raised, Rose};
 ghost use Rattle.ct_frames.specs.Fetches.{Fetches, CallsFor};
 ghost use Rattle.ct_frames.specs.Pages.{PageImage, IsPageRead, ArePages, PlacesAll, ReplaysAll, an_image, image_of, page_at, page_in};
 ghost use Rattle.ct_frames.specs.declared.table.FrameTable.{FrameTable};
-ghost use Rattle.ct_frames.specs.Tables.{frame_at, dirty_at, bytes_at, SameFrames, Puts, IsLeast, IsClean, after_image};
+ghost use Rattle.ct_frames.specs.Tables.{frame_at, dirty_at, bytes_at, SameFrames, Puts, IsLeast, IsClean, after_image, blank};
 
 use crate::fault::{Fetched, FrameFault};
 use crate::image::Image;
@@ -61,6 +61,22 @@ impl<P: Disk> Frames<P> {
         }
         self.table.put(page, frame);
         Ok(Fetched::Moved)
+    }
+
+    /// Gives a page that was just allocated a frame of zeros, as the device has it, in place of any
+    /// that is here. The only refusal is `Memory`. It makes no call of the device.
+    pub fn blank(&mut self, page: u64) -> Result<(), FrameFault>
+        requires { page < 2 ^ 50 }
+        ensures ok { OnOk result (Puts page blank self.old.table self.new.table) }
+        ensures pages { (base : ℕ → List ℕ) (images : List PageImage) → page_at base images page ≡ replicate 4096 0 → ArePages base images self.old.table
+            → OnOk result (ArePages base images self.new.table) }
+        ensures err { OnErr result (SameFrames self.old.table self.new.table) }
+        ensures memory { IfErr result (λ fault. fault ≡ FrameFault.Memory) }
+        ensures device { self.new.device ≡ self.old.device }
+    {
+        let zeros = self.table.blank()?;
+        self.table.put(page, zeros);
+        Ok(())
     }
 
     /// The bytes of a page that is here.

@@ -45,6 +45,15 @@ fn an_edited_page_has_its_position(rt: HostRuntime) -> Result<(), Fail> {
 }
 
 #[test]
+fn a_new_page_is_blank(rt: HostRuntime) -> Result<(), Fail> {
+    let mut frames = Frames::new(rt.alloc(), MemDisk::of(rt.alloc(), &records(2))?);
+    frames.blank(0)?;
+    assert_eq!(rt; frames.page(0).as_slice(), [0; PAGE_SIZE].as_slice());
+    assert_eq!(rt; frames.oldest(), None);
+    Ok(())
+}
+
+#[test]
 fn the_last_image_stays(rt: HostRuntime) -> Result<(), Fail> {
     let mut frames = Frames::new(rt.alloc(), MemDisk::new(rt.alloc()));
     frames.replay(1, &records(0), 3)?;

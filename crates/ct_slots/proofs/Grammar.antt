@@ -110,7 +110,7 @@ numbers_below at page bytes =
     let b = bytes_of_part 2 at page bytes in
     omega (arith, b 0, b 1)
 
-long_numbers_below : (at : ℕ) (page : List ℕ) → ((i : ℕ) → get_or page i 0 < 256) → u64_at at page < 2 ^ 64
+pub long_numbers_below : (at : ℕ) (page : List ℕ) → ((i : ℕ) → get_or page i 0 < 256) → u64_at at page < 2 ^ 64
 unfolding u64_at
 long_numbers_below at page bytes =
     let b = bytes_of_part 8 at page bytes in

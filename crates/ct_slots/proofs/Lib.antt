@@ -8,3 +8,4 @@ pub mod Cuts
 pub mod Edits
 pub mod Grammar
 pub mod Fewer
+pub mod Repositions

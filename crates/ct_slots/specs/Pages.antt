@@ -19,6 +19,10 @@ pub record RecordPage : Type 0 where
 abbrev pub with_rows : List Row → RecordPage → RecordPage
 with_rows rows shown = record { file = shown.file; position = shown.position; rows = rows }
 
+-- the same page at another position
+abbrev pub at_position : ℕ → RecordPage → RecordPage
+at_position position shown = record { file = shown.file; position = position; rows = shown.rows }
+
 -- the records with this image under a number, whether or not there was one
 abbrev pub with_slot : ℕ → List ℕ → List Row → List Row
 with_slot num image rows = with_row (record { num = num; image = image }) (without_row num rows)

@@ -5,9 +5,11 @@
 mod check;
 mod edit;
 mod find;
+mod laws;
 mod moves;
 mod slots;
 #[cfg(test)]
 mod tests;
 
+pub use laws::positions_keep_records;
 pub use slots::Slots;

@@ -8,7 +8,7 @@ ghost use Rattle.ct_slots.specs.Pages.{RecordPage, Fits, page_of, with_rows, wit
 use crate::check::is_record_page;
 use crate::{edit, find};
 use ct_definitions::RECORDS_PER_BLOCK;
-use ct_page::{Header, NO_INDEX, PAGE_SIZE, PageKind};
+use ct_page::{Header, NO_INDEX, PAGE_SIZE, PageKind, u16_at};
 use std::marker::Model;
 
 /// The records of one block of a file, each under its number within the block, which is its number
@@ -65,6 +65,13 @@ impl Slots {
         ensures fits { Fits self.now }
     {
         *into = self.page;
+    }
+
+    /// The file that the records are of.
+    pub fn file(&self) -> u16
+        ensures { result ≡ self.now.file }
+    {
+        u16_at(&self.page, 2)
     }
 
     /// The image of a record, or `None` where there is no such record.
