@@ -12,17 +12,17 @@ use Rattle.ct_node.specs.Worlds.{World, PageValue, Blank, Defines, Holds, is_own
 use Rattle.ct_node.specs.MemWorlds.{page_value, damaged}
 
 -- the world of these pages
-abbrev pub made : List PageValue → List Hold → List Owner → Bool → World
-made pages holds fresh founded = record { pages = pages; holds = holds; fresh = fresh; founded = founded }
+abbrev pub made : List PageValue → List Hold → List Owner → World
+made pages holds fresh = record { pages = pages; holds = holds; fresh = fresh }
 
-pub edited_world : (pages : List MemPage) (holds : List Hold) (fresh other : List Owner) (founded : Bool) (op page right : ℕ) (copy node : NodeValue) → copy ≡ node → right ≡ node.right → other ≡ filter (λ owner. not (is_owner op right owner)) fresh → made (map page_value (set pages page (Tree copy))) holds other founded ≡ edited op page node (made (map page_value pages) holds fresh founded)
-edited_world pages holds fresh other founded op page right copy node is_copy is_right is_other =
-    ap (λ list. made list holds other founded) (map-set page_value pages page (Tree copy) ∙ ap (λ v. set (map page_value pages) page (Holds v)) is_copy)
-    ∙ ap (λ list. made (set (map page_value pages) page (Holds node)) holds list founded) (is_other ∙ ap (λ r. filter (λ owner. not (is_owner op r owner)) fresh) is_right)
+pub edited_world : (pages : List MemPage) (holds : List Hold) (fresh other : List Owner) (op page right : ℕ) (copy node : NodeValue) → copy ≡ node → right ≡ node.right → other ≡ filter (λ owner. not (is_owner op right owner)) fresh → made (map page_value (set pages page (Tree copy))) holds other ≡ edited op page node (made (map page_value pages) holds fresh)
+edited_world pages holds fresh other op page right copy node is_copy is_right is_other =
+    ap (λ list. made list holds other) (map-set page_value pages page (Tree copy) ∙ ap (λ v. set (map page_value pages) page (Holds v)) is_copy)
+    ∙ ap (λ list. made (set (map page_value pages) page (Holds node)) holds list) (is_other ∙ ap (λ r. filter (λ owner. not (is_owner op r owner)) fresh) is_right)
 
-pub damaged_world : (pages : List MemPage) (holds : List Hold) (fresh : List Owner) (founded : Bool) (page : ℕ) (copy node : NodeValue) → copy ≡ node → made (map page_value (set pages page (Tree copy))) holds fresh false ≡ damaged page node (made (map page_value pages) holds fresh founded)
-damaged_world pages holds fresh founded page copy node is_copy =
-    ap (λ list. made list holds fresh false) (map-set page_value pages page (Tree copy) ∙ ap (λ v. set (map page_value pages) page (Holds v)) is_copy)
+pub damaged_world : (pages : List MemPage) (holds : List Hold) (fresh : List Owner) (page : ℕ) (copy node : NodeValue) → copy ≡ node → made (map page_value (set pages page (Tree copy))) holds fresh ≡ damaged page node (made (map page_value pages) holds fresh)
+damaged_world pages holds fresh page copy node is_copy =
+    ap (λ list. made list holds fresh) (map-set page_value pages page (Tree copy) ∙ ap (λ v. set (map page_value pages) page (Holds v)) is_copy)
 
 pub get_or-pages : (pages : List MemPage) (page : ℕ) → get_or (map page_value pages) page Blank ≡ page_value (get_or pages page Unwritten)
 get_or-pages [] page = refl
@@ -37,10 +37,10 @@ rooted_row (Index old) zero page row is =
     ap (λ (r : IndexRow). Defines (record { file = 0; rows = record { root = page; first = r.first; key_len = r.key_len } ∷ [] })) (sym same)
 rooted_row (Index old) (suc index) page row is = absurd (let no : None ≡ Some row = is in cc)
 
-pub rooted_world : (pages : List MemPage) (holds : List Hold) (fresh other : List Owner) (founded : Bool) (op page : ℕ) (at : Root) (row : IndexRow) → row_in at.index (get_or (map page_value pages) at.page Blank) ≡ Some row → other ≡ filter (λ owner. not (is_owner op page owner)) fresh → made (map page_value (set pages at.page (Index (record { root = page; first = row.first; key_len = row.key_len })))) holds other founded ≡ rooted op at page (made (map page_value pages) holds fresh founded)
-rooted_world pages holds fresh other founded op page at row is is_other =
+pub rooted_world : (pages : List MemPage) (holds : List Hold) (fresh other : List Owner) (op page : ℕ) (at : Root) (row : IndexRow) → row_in at.index (get_or (map page_value pages) at.page Blank) ≡ Some row → other ≡ filter (λ owner. not (is_owner op page owner)) fresh → made (map page_value (set pages at.page (Index (record { root = page; first = row.first; key_len = row.key_len })))) holds other ≡ rooted op at page (made (map page_value pages) holds fresh)
+rooted_world pages holds fresh other op page at row is is_other =
     let value = get_or pages at.page Unwritten in
     let here : get_or (map page_value pages) at.page Blank ≡ page_value value = get_or-pages pages at.page in
     let written : page_value (Index (record { root = page; first = row.first; key_len = row.key_len })) ≡ rooted_page at.index page (get_or (map page_value pages) at.page Blank) = rooted_row value at.index page row (ap (row_in at.index) (sym here) ∙ is) ∙ ap (rooted_page at.index page) (sym here) in
-    ap (λ list. made list holds other founded) (map-set page_value pages at.page (Index (record { root = page; first = row.first; key_len = row.key_len })) ∙ ap (λ v. set (map page_value pages) at.page v) written)
-    ∙ ap (λ list. made (set (map page_value pages) at.page (rooted_page at.index page (get_or (map page_value pages) at.page Blank))) holds list founded) is_other
+    ap (λ list. made list holds other) (map-set page_value pages at.page (Index (record { root = page; first = row.first; key_len = row.key_len })) ∙ ap (λ v. set (map page_value pages) at.page v) written)
+    ∙ ap (λ list. made (set (map page_value pages) at.page (rooted_page at.index page (get_or (map page_value pages) at.page Blank))) holds list) is_other

@@ -1,5 +1,5 @@
 -- What pages in memory are to operations.
-use Rattle.std.specs.Prelude.{ℕ, ◌+◌, ◌==◌, min, List, [], ◌∷◌, map, slice_set, Bool, true, false, if◌then◌else◌, Option, Some, None}
+use Rattle.std.specs.Prelude.{ℕ, ◌+◌, ◌==◌, ◌&&◌, min, List, [], ◌∷◌, map, slice_set, Bool, true, false, if◌then◌else◌, Option, Some, None}
 use Rattle.std.specs.List.{list_any}
 use Rattle.ct_disk.specs.declared.turn.StepFault.{StepFault}
 use Rattle.ct_disk.specs.declared.turn.StepFault.TheVariants.{Read, Halted}
@@ -19,7 +19,7 @@ page_value (Tree node) = Holds node
 
 -- the world of pages in memory
 abbrev pub world_of : MemNodes → World
-world_of nodes = record { pages = map page_value nodes.pages.items; holds = nodes.latches.holds; fresh = nodes.fresh.items; founded = nodes.founded }
+world_of nodes = record { pages = map page_value nodes.pages.items; holds = nodes.latches.holds; fresh = nodes.fresh.items }
 
 -- a leaf without pairs, which is the first and the last
 abbrev pub empty_leaf : ℕ → NodeValue
@@ -27,11 +27,15 @@ empty_leaf key_len = record { file = 0; index = 0; leaf = true; key_len = key_le
 
 -- a definition page with one index, and its leaf
 abbrev pub new_world : ℕ → World
-new_world key_len = record { pages = Defines (record { file = 0; rows = record { root = 1; first = 1; key_len = key_len } ∷ [] }) ∷ Holds (empty_leaf key_len) ∷ []; holds = []; fresh = []; founded = true }
+new_world key_len = record { pages = Defines (record { file = 0; rows = record { root = 1; first = 1; key_len = key_len } ∷ [] }) ∷ Holds (empty_leaf key_len) ∷ []; holds = []; fresh = [] }
 
 -- the world once a node was written into a page, where there is that page, by no operation
 abbrev pub damaged : ℕ → NodeValue → World → World
-damaged page node w = record w { pages = slice_set w.pages page (Holds node); founded = false }
+damaged page node w = record w { pages = slice_set w.pages page (Holds node) }
+
+-- the mark of the last step that was made, once this step is made or none
+abbrev pub latest : Mark → Mark → Mark
+latest mark before = if mark.tran == 0 && mark.steps == 0 then before else mark
 
 -- the numbers of the calls that are to fail
 abbrev pub failing_of : MemNodes → List ℕ

@@ -9,7 +9,7 @@ use Rattle.ct_disk.specs.declared.turn.HaltCause.TheVariants.{BadPage}
 use Rattle.ct_disk.specs.Disk.{Rose}
 use Rattle.ct_latch.specs.declared.hold.Hold.{Hold}
 use Rattle.ct_node.specs.declared.root.Mark.{Mark}
-use Rattle.ct_node.specs.Worlds.{World}
+use Rattle.ct_node.specs.Worlds.{World, no_mark}
 
 -- a fact of what was answered
 abbrev pub OnDone : {T : Type 0} → Turn T → (T → Type 0) → Type 0
@@ -42,27 +42,27 @@ LatchedBy (Refused fault) barring = Unit {0}
 -- what a fault has as its cause: a count of faulty reads that rose, or a halt that is kept; want of memory is free
 abbrev pub Caused : StepFault → ℕ → ℕ → Option HaltCause → Option HaltCause → Type 0
 Caused Read before now halted halts = Rose before now × (halts ≡ halted)
-Caused (Halted cause) before now halted halts = halts ≡ Some cause
-Caused Memory before now halted halts = (now ≡ before) × (halts ≡ halted)
+Caused (Halted cause) before now halted halts = (before ≤ now) × (halts ≡ Some cause)
+Caused Memory before now halted halts = (before ≤ now) × (halts ≡ halted)
 
 -- the cause of a halt for a page: that of an earlier halt is kept
 abbrev pub kept_cause : Option HaltCause → ℕ → HaltCause
 kept_cause None page = BadPage page
 kept_cause (Some cause) page = cause
 
--- the faults and the halt after a call: as they were, but where it is refused
+-- the faults and the halt after a call: no count falls, and the halt is as it was, but where the call is refused
 abbrev pub CausedTurn : {T : Type 0} → Turn T → ℕ → ℕ → Option HaltCause → Option HaltCause → Type 0
-CausedTurn (Done answer) before now halted halts = (now ≡ before) × (halts ≡ halted)
-CausedTurn More before now halted halts = (now ≡ before) × (halts ≡ halted)
-CausedTurn (Busy op) before now halted halts = (now ≡ before) × (halts ≡ halted)
+CausedTurn (Done answer) before now halted halts = (before ≤ now) × (halts ≡ halted)
+CausedTurn More before now halted halts = (before ≤ now) × (halts ≡ halted)
+CausedTurn (Busy op) before now halted halts = (before ≤ now) × (halts ≡ halted)
 CausedTurn (Refused fault) before now halted halts = Caused fault before now halted halts
 
--- the mark that the last edit bore: that of an edit that was done, and else the one from before
-abbrev pub Bears : {T : Type 0} → Turn T → Mark → Mark → Mark → Type 0
-Bears (Done answer) mark before now = now ≡ mark
-Bears More mark before now = now ≡ before
-Bears (Busy op) mark before now = now ≡ before
-Bears (Refused fault) mark before now = now ≡ before
+-- the mark of the step that a call made: that of an edit that was done, and else none
+abbrev pub mark_by : {T : Type 0} → Turn T → Mark → Mark
+mark_by (Done answer) mark = mark
+mark_by More mark = no_mark
+mark_by (Busy op) mark = no_mark
+mark_by (Refused fault) mark = no_mark
 
 -- a fact of a turn that is to go on
 abbrev pub OnMore : {T : Type 0} → Turn T → Type 0 → Type 0

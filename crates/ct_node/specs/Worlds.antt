@@ -1,5 +1,5 @@
 -- The pages that nodes stand in, who holds them, and the edits that an operation may make.
-use Rattle.std.specs.Prelude.{◌≡◌, ℕ, zero, suc, ◌≤◌, ◌==◌, List, [], ◌∷◌, ◌++◌, length, filter, slice_get, slice_index_or, slice_set, Bool, true, false, not, ◌&&◌, Option, Some, None}
+use Rattle.std.specs.Prelude.{◌≡◌, ℕ, zero, suc, ◌≤◌, ◌==◌, List, [], ◌∷◌, ◌++◌, ◌^◌, length, map, filter, slice_get, slice_index_or, slice_set, Bool, true, false, not, ◌&&◌, Option, Some, None, ◌⊎◌}
 use Rattle.std.specs.List.{list_any}
 use Rattle.ct_latch.specs.declared.hold.Hold.{Hold}
 use Rattle.ct_latch.specs.Latches.{is_of}
@@ -24,12 +24,11 @@ pub data PageValue : Type 0 where
   Defines : DefinitionValue → PageValue
   Holds : NodeValue → PageValue
 
--- the pages, the latches on them, the pages that no link reaches yet, and whether all of it was made by operations alone: an index that is read from a device may be damaged
+-- the pages, the latches on them, and the pages that no link reaches yet
 pub record World : Type 0 where
   pub pages : List PageValue
   pub holds : List Hold
   pub fresh : List Owner
-  pub founded : Bool
 
 -- what stands in the page of a number; one past the last is blank
 abbrev pub page_at : World → ℕ → PageValue
@@ -84,6 +83,14 @@ with_holds holds w = record w { holds = holds }
 abbrev pub edited : ℕ → ℕ → NodeValue → World → World
 edited op page node w = record w { pages = slice_set w.pages page (Holds node); fresh = filter (λ owner. not (is_owner op node.right owner)) w.fresh }
 
+-- a page that is lost: no link reaches it, and it belongs to no operation, since none has this number
+abbrev pub lost_owner : ℕ → Owner
+lost_owner page = record { page = page; op = 2 ^ 64 }
+
+-- the world in which these pages are lost: a stop left them before a link to them was written
+abbrev pub with_lost : List ℕ → World → World
+with_lost lost w = record w { fresh = w.fresh ++ map lost_owner lost }
+
 -- no step of any transaction
 abbrev pub no_mark : Mark
 no_mark = record { tran = 0; steps = 0 }
@@ -113,6 +120,7 @@ pub record TakesPair (op page : ℕ) (new : NodeValue) (w : World) : Type 0 wher
   pub pair : Pair
   pub held : IsHeld op page node w
   pub leaf : node.leaf ≡ true
+  pub there : has_pair pair (pairs_in node) ≡ true
   pub within : is_within node.low node.high pair ≡ true
   pub sound : IsNode new
   pub made : new ≡ record node { entries = filter (has_other_pair pair) node.entries }
@@ -206,6 +214,42 @@ pub data Move (op page : ℕ) (new : NodeValue) (mark : Mark) (w : World) : Type
   Cuts : mark ≡ no_mark → CutsLeft op page new w → Move op page new mark w
   Posts : mark ≡ no_mark → PostsChild op page new w → Move op page new mark w
   Crowns : mark ≡ no_mark → WritesRoot op page new w → Move op page new mark w
+
+-- a step of a transaction: a pair is put into an index, or taken from it
+pub data Effect : Type 0 where
+  Adds : Root → Pair → Effect
+  Drops : Root → Pair → Effect
+
+-- the index of a step
+abbrev pub root_of : Effect → Root
+root_of (Adds at pair) = at
+root_of (Drops at pair) = at
+
+-- a node with the pair of a step put or taken
+abbrev pub effected : Effect → NodeValue → NodeValue
+effected (Adds at pair) node = record node { entries = with_entry (record { pair = pair; child = 0 }) node.entries }
+effected (Drops at pair) node = record node { entries = filter (has_other_pair pair) node.entries }
+
+-- the edit of a page is this step
+abbrev pub Makes : Effect → ℕ → NodeValue → World → Type 0
+Makes effect page new w = (node : NodeValue) × (page_at w page ≡ Holds node) × (new ≡ effected effect node)
+
+-- the node of a page is one of an index
+pub record IsIn (at : Root) (page : ℕ) (w : World) : Type 0 where
+  pub def : DefinitionValue
+  pub node : NodeValue
+  pub defined : page_at w at.page ≡ Defines def
+  pub is : page_at w page ≡ Holds node
+  pub file : node.file ≡ def.file
+  pub index : node.index ≡ at.index
+
+-- an edit bears no mark, or that of a step which may be made and which it is
+abbrev pub Allowed : (Effect → Type 0) → Mark → ℕ → NodeValue → World → Type 0
+Allowed allows mark page new w = (mark ≡ no_mark) ⊎ ((effect : Effect) × allows effect × Makes effect page new w)
+
+-- and the step is of the index that the page belongs to
+abbrev pub Meant : (Effect → Type 0) → Mark → ℕ → NodeValue → World → Type 0
+Meant allows mark page new w = (mark ≡ no_mark) ⊎ ((effect : Effect) × allows effect × Makes effect page new w × IsIn (root_of effect) page w)
 
 -- an operation has no page that is written and that no link reaches yet
 abbrev pub IsTidy : ℕ → World → Type 0

@@ -5,7 +5,7 @@ ghost use Rattle.ct_node.specs.Worlds.{Holds, page_at, row_in, is_owner};
 ghost use Rattle.ct_node.specs.Turns.{Caused, kept_cause};
 ghost use Rattle.ct_node.specs.Nodes.{NodeValue};
 ghost use Rattle.ct_disk.specs.declared.turn.StepFault.{StepFault};
-ghost use Rattle.ct_node.specs.MemWorlds.{world_of, new_world, damaged, failing_of, counts_of, refusal_of};
+ghost use Rattle.ct_node.specs.MemWorlds.{world_of, new_world, damaged, failing_of, counts_of, latest, refusal_of};
 
 use crate::node::Node;
 use crate::nodes::Nodes;
@@ -42,7 +42,8 @@ impl MemNodes {
     pub fn new(alloc: Global, key_len: u16) -> Result<MemNodes, NoMemory>
         requires some_key { 1 ≤ key_len }
         requires short_key { key_len ≤ 128 }
-        ensures { IfOk result (λ nodes. world_of nodes ≡ new_world key_len) }
+        ensures world { IfOk result (λ nodes. world_of nodes ≡ new_world key_len) }
+        ensures sound { IfOk result (λ nodes. nodes.founded ≡ true) }
     {
         let mut pages = Vec::new(alloc);
         let row = IndexRow {
@@ -96,6 +97,7 @@ impl MemNodes {
         ensures is { result ≡ refusal_of self.old }
         ensures plan { failing_of self.new ≡ failing_of self.old }
         ensures world { world_of self.new ≡ world_of self.old }
+        ensures founded { self.new.founded ≡ self.old.founded }
         ensures last { self.new.last ≡ self.old.last }
         ensures cause { MatchOption result ((self.new.faults ≡ self.old.faults) × (self.new.halted ≡ self.old.halted)) (λ fault. Caused fault self.old.faults self.new.faults self.old.halted self.new.halted) }
     {
@@ -115,6 +117,7 @@ impl MemNodes {
         ensures is { result ≡ StepFault.Halted (kept_cause self.old.halted page) }
         ensures faults { self.new.faults ≡ self.old.faults }
         ensures world { world_of self.new ≡ world_of self.old }
+        ensures founded { self.new.founded ≡ self.old.founded }
         ensures last { self.new.last ≡ self.old.last }
         ensures cause { Caused result self.old.faults self.new.faults self.old.halted self.new.halted }
     {
@@ -151,6 +154,17 @@ impl MemNodes {
     }
 }
 
+/// The mark of the last step, once this step is made or none.
+fn latest(mark: Mark, before: Mark) -> Mark
+    ensures { result ≡ latest mark before }
+{
+    if mark.tran == 0 && mark.steps == 0 {
+        before
+    } else {
+        mark
+    }
+}
+
 /// Takes an operation's page out of those that no link reaches.
 fn link_page(fresh: &mut Vec<Owner>, op: u64, page: u64)
     ensures { fresh.new.items ≡ filter (λ owner. not (is_owner op page owner)) fresh.old.items }
@@ -177,9 +191,14 @@ impl Nodes for MemNodes {
     ghost use Rattle.std.specs.Prelude.{◌≡◌, None};
     ghost use Rattle.ct_node.specs.Nodes.{NodeValue};
     ghost use Rattle.ct_node.specs.Worlds.{Holds, page_at};
-    ghost use Rattle.ct_node.specs.MemWorlds.{world_of};
+    ghost use Rattle.ct_node.specs.MemWorlds.{world_of, latest};
+    ghost use Rattle.std.proofs.Common.{refl, ap, ◌∙◌, true};
 
     ghost world = { world_of };
+
+    ghost sound = { λ nodes lost. nodes.founded ≡ true };
+
+    ghost goes = { λ old mark new. new.last ≡ latest mark old.last };
 
     ghost halted = { λ nodes. nodes.halted };
 
@@ -187,11 +206,15 @@ impl Nodes for MemNodes {
 
     ghost flushes = { λ nodes. None };
 
-    ghost allows = { λ nodes op mark. Unit {0} };
+    ghost allows = { λ nodes op mark effect. Unit {0} };
 
-    ghost marked = { λ nodes. nodes.last };
+    ghost goes_nowhere = { λ nodes. refl };
 
-    ghost allows_none = { λ nodes op. tt };
+    ghost then_goes = { λ first mid last mark none one. one ∙ ap (latest mark) none };
+
+    ghost goes_then = { λ first mid last mark one none. none ∙ one };
+
+    ghost goes_allows = { λ first last op mark effect none allowed. tt };
 
     ghost shows = { λ nodes page. (node : NodeValue) × (page_at (world_of nodes) page ≡ Holds node) };
 
@@ -230,7 +253,7 @@ impl Nodes for MemNodes {
         node.copy_into(&mut copy);
         self.pages[page as usize] = MemPage::Tree(copy);
         link_page(&mut self.fresh, op, right);
-        self.last = mark;
+        self.last = latest(mark, self.last);
         Turn::Done(())
     }
 

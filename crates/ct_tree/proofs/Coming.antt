@@ -1,6 +1,6 @@
 -- What an operation remembers of how it came to its page stands after each of its turns.
 use Rattle.std.proofs.Common.{◌≡◌, ℕ, Bool, true, false, refl, sym, ap, ◌∙◌, subst, ⊎_elim, Option, Some, None}
-use Rattle.std.specs.Prelude.{IsTrue, ◌==◌, ◌&&◌, not, if◌then◌else◌}
+use Rattle.std.specs.Prelude.{◌==◌, ◌&&◌, not, if◌then◌else◌}
 use Rattle.std.proofs.lemmas.Bool.{eq-eqb}
 use Rattle.ct_disk.specs.declared.turn.Turn.{Turn}
 use Rattle.ct_disk.specs.declared.turn.Turn.TheVariants.{Done, More, Busy, Refused}
@@ -22,21 +22,21 @@ use Rattle.ct_tree.proofs.RolesDown.{has_role, comes_after, over_comes}
 
 -- an operation that is at no page has come to none
 pub come_start : (ways : Ways) (w : World) → HasCome stage.Start ways w
-come_start ways w = (λ founded. tt, λ founded. tt)
+come_start ways w = (tt, tt)
 
 pub come_ended : (ways : Ways) (w : World) → HasCome stage.Ended ways w
-come_ended ways w = (λ founded. tt, λ founded. tt)
+come_ended ways w = (tt, tt)
 
 -- nodes keep their places in a turn of any operation
 pub come_kept : (walk : Walk) (to at : Stage) (ways : Ways) (w now : World) → Stepped walk to w now → HasCome at ways w → HasCome at ways now
 come_kept walk to at ways w now stepped come = (
-  λ founded. let was : IsTrue w.founded = sym stepped.founded ∙ founded in kept_at w now (page_of at) ways.at (stepped.at was) (come.0 was),
-  λ founded. let was : IsTrue w.founded = sym stepped.founded ∙ founded in kept_at w now (over_of at) ways.over (stepped.at was) (come.1 was),
+  kept_at w now (page_of at) ways.at (stepped.at) (come.0),
+  kept_at w now (over_of at) ways.over (stepped.at) (come.1),
 )
 
 -- the page that a turn looks at is in its role
-pub role_come : (walk : Walk) (w : World) (from at : Stage) (ways : Ways) → at ≡ from → Stands walk from w → HasCome from ways w → IsTrue w.founded → HasRole (looked_at at) ways.at w
-role_come walk w from at ways same stands come founded = subst (λ stage. HasRole (looked_at stage) ways.at w) (sym same) (has_role walk w from ways.at founded stands come.0)
+pub role_come : (walk : Walk) (w : World) (from at : Stage) (ways : Ways) → at ≡ from → Stands walk from w → HasCome from ways w → HasRole (looked_at at) ways.at w
+role_come walk w from at ways same stands come = subst (λ stage. HasRole (looked_at stage) ways.at w) (sym same) (has_role walk w from ways.at stands come.0)
 
 -- a leaf is found once, and where an operation stays, the way from its page does not count
 found_once : (found : Bool) (one other : Reach) → (if found && not found then one else other) ≡ other
@@ -65,8 +65,8 @@ come_waiting walk w now before after from to ways next stands waits come comes =
   where
     by_same : Comes walk w from from ways next → HasCome from next w
     by_same stayed = (
-      λ founded. subst (λ reach. IsReachedAt (page_of from) reach w) (sym (stayed.0 ∙ came_waiting walk w from ways.at ways.over)) (come.0 founded),
-      λ founded. over_waits w (page_of from) (over_of from) ways.at ways.over next.over stayed.1 (come.1 founded),
+      subst (λ reach. IsReachedAt (page_of from) reach w) (sym (stayed.0 ∙ came_waiting walk w from ways.at ways.over)) (come.0),
+      over_waits w (page_of from) (over_of from) ways.at ways.over next.over stayed.1 (come.1),
     )
 
 -- what an operation remembers of how it came to its page stands after any turn
@@ -84,8 +84,8 @@ come_after result walk w now before after from to ways next stands stepped rule 
           subst (λ reach. IsReached to reach now) (sym came.0) (comes_after walk w now from to ways.at ways.over stands stepped goes come.0 come.1),
           over_comes walk w now from to ways.at ways.over next.over stands stepped goes come.0 come.1 came.1,
         )) is
-    by_turn (Busy op) is came same = ⊎_elim (stays (same refl)) (λ one. subst (λ at. HasCome at next now) (sym one) (come_start next now)) is
-    by_turn (Refused fault) is came same = stays (same refl) is
+    by_turn (Busy op) is came same = ⊎_elim (stays (same refl)) (λ one. subst (λ at. HasCome at next now) (sym one) (come_start next now)) is.0
+    by_turn (Refused fault) is came same = stays (same refl) is.0
 
 pub more_comes : (turn : Turn (Unit {0})) (walk : Walk) (w : World) (from to : Stage) (ways next : Ways) → Follows turn walk w from to ways next → OnMore turn (Comes walk w from to ways next)
 more_comes (Done answer) walk w from to ways next follows = tt

@@ -1,6 +1,6 @@
 -- A walk that goes on from a page of a tree comes to one that is onward, and its count stands.
 use Rattle.std.proofs.Common.{◌≡◌, ℕ, suc, ◌+◌, ◌<◌, List, [], ◌∷◌, length, Bool, true, false, eqb, refl, sym, ap, ◌∙◌, arith, subst, inl, inr, ⊎_elim, ◌⊎◌, Option, Some, None}
-use Rattle.std.specs.Prelude.{IsTrue, IfSome, ◌&&◌, ◌||◌, not, if◌then◌else◌}
+use Rattle.std.specs.Prelude.{IfSome, ◌&&◌, ◌||◌, not, if◌then◌else◌}
 use Rattle.std.proofs.lemmas.Bool.{false≢true, eqb-true, lt-ltb}
 use Rattle.std.specs.Ordering.{is_lt}
 use Rattle.ct_definitions.specs.Pairs.{Pair, pair_cmp}
@@ -23,9 +23,8 @@ use Rattle.ct_tree_laws.specs.declared.rise.Separator.{Separator}
 use Rattle.ct_tree_laws.specs.declared.rise.Rise.{Rise}
 use Rattle.ct_tree_laws.specs.declared.rise.Rise.TheVariants as rise
 use Rattle.ct_tree_laws.specs.Trees.{Tree, IsOf, IsAt, IsTree, IsNear, IsLowFor, IsLower, Rises, link_by}
-use Rattle.ct_tree_laws.specs.Stands.{StandsIn, Stands, Stepped, IsPacked, KeepsLevels, KeepsAt}
+use Rattle.ct_tree_laws.specs.Stands.{Stands, Stepped, IsPacked, KeepsLevels, KeepsAt}
 use Rattle.ct_tree_laws.proofs.Chains.{one_node}
-use Rattle.ct_tree_laws.proofs.Turns.{not_founded}
 use Rattle.ct_tree_laws.proofs.PostingTurns.{held_past}
 use Rattle.ct_tree_laws.proofs.Walking.{right_at_of, goes_past, seen_near, near_down, down_above}
 use Rattle.ct_tree.specs.declared.moves.Spot.{Spot}
@@ -101,7 +100,7 @@ Counts from moves now to = IsCountedAt now (spot_of to) (moves_after (spot_of fr
 came : (w now : World) (page next moves : ℕ) → KeepsLevels w now → KeepsAt w now → (next ≡ page → ⊥) → IsOnward w page next → ((pages : List ℕ) × (length pages ≡ moves) × IsPath w page pages) → (pages : List ℕ) × (length pages ≡ (if true && not (true && eqb page next) then moves + 1 else moves)) × IsPath now next pages
 came w now page next moves levels keeps differ on counted = let after = moved_on w now page next moves levels keeps on counted in (after.0, after.1 ∙ sym (comes page next moves differ), after.2)
 
-left_counts : (walk : Walk) (w now : World) (low : Pair) (or_at : Bool) (way : Way) (to : Stage) (moves : ℕ) → StandsIn walk (stage.Left low or_at way) w → KeepsLevels w now → KeepsAt w now → GoesLeft walk w low or_at way to → IsCountedAt w (spot_of (stage.Left low or_at way)) moves → Counts (stage.Left low or_at way) moves now to
+left_counts : (walk : Walk) (w now : World) (low : Pair) (or_at : Bool) (way : Way) (to : Stage) (moves : ℕ) → Stands walk (stage.Left low or_at way) w → KeepsLevels w now → KeepsAt w now → GoesLeft walk w low or_at way to → IsCountedAt w (spot_of (stage.Left low or_at way)) moves → Counts (stage.Left low or_at way) moves now to
 left_counts walk w now low or_at way.Start to moves here levels keeps (page, root, is) none = subst (Counts (stage.Left low or_at way.Start) moves now) (sym is) ([], sym none, tt)
 left_counts walk w now low or_at (way.Down page) to moves here levels keeps goes counted =
     ⊎_elim (λ (next, leads, is). subst (Counts (stage.Left low or_at (way.Down page)) moves now) (sym is) (came w now page next moves levels keeps leads.1 (next_onward w walk.at here.tree here.leaves (Before low) page next here.is here.place.2 leads) counted))
@@ -111,7 +110,7 @@ left_counts walk w now low or_at (way.Shared page) to moves here levels keeps go
     ⊎_elim (λ (next, leads, is). subst (Counts (stage.Left low or_at (way.Shared page)) moves now) (sym is) (moved_on w now page next moves levels keeps (right_onward w walk.at here.tree here.leaves true here.place.2.0.0 (Before low) page next here.is here.place.2.0.1 leads) counted))
     (λ (lower, begins, is). subst (Counts (stage.Left low or_at (way.Shared page)) moves now) (sym is) refl) goes
 
-above_onward : (walk : Walk) (w : World) (separator : Separator) (page : ℕ) (next : Option Separator) (right : ℕ) → StandsIn walk (stage.Post separator (rise.Held page next)) w → IsPastOf w separator.low page right → IsOnward w page right
+above_onward : (walk : Walk) (w : World) (separator : Separator) (page : ℕ) (next : Option Separator) (right : ℕ) → Stands walk (stage.Post separator (rise.Held page next)) w → IsPastOf w separator.low page right → IsOnward w page right
 above_onward walk w separator page next right here (node, is, outside, one) =
     subst (IsOnward w page) (sym one) (past_onward w walk.at here.tree here.leaves false here.place.1.1.0 (At separator.low) page node here.is here.place.1.1.1 is (held_past walk separator page next node w is outside here))
 
@@ -121,7 +120,7 @@ toward_counts w now separator page next above last to moves levels keeps differ 
     ⊎_elim (λ is. subst (Counts (stage.Post separator (rise.Down page above)) moves now) (sym is) (came w now page next moves levels keeps differ on counted))
     (λ (over, told, is). subst (Counts (stage.Post separator (rise.Down page above)) moves now) (sym is) ([], refl, tt)) toward
 
-rise_counts : (walk : Walk) (w now : World) (separator : Separator) (rise : Rise) (to : Stage) (moves : ℕ) → StandsIn walk (stage.Post separator rise) w → KeepsLevels w now → KeepsAt w now → GoesUp walk w now separator rise to → IsCountedAt w (spot_of (stage.Post separator rise)) moves → Counts (stage.Post separator rise) moves now to
+rise_counts : (walk : Walk) (w now : World) (separator : Separator) (rise : Rise) (to : Stage) (moves : ℕ) → Stands walk (stage.Post separator rise) w → KeepsLevels w now → KeepsAt w now → GoesUp walk w now separator rise to → IsCountedAt w (spot_of (stage.Post separator rise)) moves → Counts (stage.Post separator rise) moves now to
 rise_counts walk w now separator rise.Root to moves here levels keeps (same, (page, root, goes)) none =
     ⊎_elim (λ is. subst (Counts (stage.Post separator rise.Root) moves now) (sym is) none) (λ is. subst (Counts (stage.Post separator rise.Root) moves now) (sym is) ([], sym none, tt)) goes
 rise_counts walk w now separator (rise.Down page above) to moves here levels keeps (same, goes) counted =
@@ -150,7 +149,7 @@ rise_counts walk w now separator (rise.Crown root) to moves here levels keeps (w
 rise_counts walk w now separator (rise.Crowned root) to moves here levels keeps (named, is) none = subst (Counts (stage.Post separator (rise.Crowned root)) moves now) (sym is) none
 
 -- a turn that goes on counts its move
-pub goes_counts : (walk : Walk) (w now : World) (from to : Stage) (moves : ℕ) → StandsIn walk from w → KeepsLevels w now → KeepsAt w now → Goes walk w now from to → IsCountedAt w (spot_of from) moves → Counts from moves now to
+pub goes_counts : (walk : Walk) (w now : World) (from to : Stage) (moves : ℕ) → Stands walk from w → KeepsLevels w now → KeepsAt w now → Goes walk w now from to → IsCountedAt w (spot_of from) moves → Counts from moves now to
 goes_counts walk w now stage.Start to moves here levels keeps (same, (page, root, is)) none = subst (Counts stage.Start moves now) (sym is) ([], sym none, tt)
 goes_counts walk w now (stage.Down page) to moves here levels keeps (same, goes) counted =
     ⊎_elim (λ (next, leads, is). subst (Counts (stage.Down page) moves now) (sym is) (came w now page next moves levels keeps leads.1 (next_onward w walk.at here.tree here.leaves walk.target page next here.is here.place.1 leads) counted))
@@ -182,20 +181,19 @@ leaves_none : (w : World) (spot : Option Spot) (moves : ℕ) → IsCountedAt w s
 leaves_none w None moves begun = begun
 leaves_none w (Some spot) moves begun = refl
 
-by_turn : {T : Type 0} (turn : Turn T) (walk : Walk) (w now : World) (before after : ℕ) (from to : Stage) (moves : ℕ) → StandsIn walk from w → KeepsLevels w now → KeepsAt w now → IsCountedAt w (spot_of from) moves → IsTurned turn walk w now before after from to → Counts from moves now to
+by_turn : {T : Type 0} (turn : Turn T) (walk : Walk) (w now : World) (before after : ℕ) (from to : Stage) (moves : ℕ) → Stands walk from w → KeepsLevels w now → KeepsAt w now → IsCountedAt w (spot_of from) moves → IsTurned turn walk w now before after from to → Counts from moves now to
 by_turn (Done answer) walk w now before after from to moves here levels keeps begun rule = ⊎_elim (λ one. same_counts w now from to moves levels keeps begun one) (λ one. subst (Counts from moves now) (sym one) (leaves_none w (spot_of from) moves begun)) rule
 by_turn More walk w now before after from to moves here levels keeps begun rule = ⊎_elim (λ (waits : Waits w now before after from to). same_counts w now from to moves levels keeps begun waits.same) (λ goes. goes_counts walk w now from to moves here levels keeps goes begun) rule
-by_turn (Busy op) walk w now before after from to moves here levels keeps begun rule = ⊎_elim (λ one. same_counts w now from to moves levels keeps begun one) (λ one. subst (Counts from moves now) (sym one) (leaves_none w (spot_of from) moves begun)) rule
-by_turn (Refused fault) walk w now before after from to moves here levels keeps begun rule = same_counts w now from to moves levels keeps begun rule
+by_turn (Busy op) walk w now before after from to moves here levels keeps begun rule = ⊎_elim (λ one. same_counts w now from to moves levels keeps begun one) (λ one. subst (Counts from moves now) (sym one) (leaves_none w (spot_of from) moves begun)) rule.0
+by_turn (Refused fault) walk w now before after from to moves here levels keeps begun rule = same_counts w now from to moves levels keeps begun rule.0
 
 -- the count stands after any turn
 pub turn_counts : {T : Type 0} (turn : Turn T) (walk : Walk) (w now : World) (before after : ℕ) (from to : Stage) (moves counted : ℕ) → Stands walk from w → Stepped walk to w now → IsTurned turn walk w now before after from to → IsCounted from moves w → counted ≡ moves_after (spot_of from) (spot_of to) moves → IsCounted to counted now
-turn_counts turn walk w now before after from to moves counted stands stepped rule count is founded =
-    let was : IsTrue w.founded = sym stepped.founded ∙ founded in
-    let levels = stepped.levels was in
-    let keeps = stepped.at was in
-    let begun = count was in
-    subst (IsCountedAt now (spot_of to)) (sym is) (by_turn turn walk w now before after from to moves (stands was) levels keeps begun rule)
+turn_counts turn walk w now before after from to moves counted stands stepped rule count is =
+    let levels = stepped.levels in
+    let keeps = stepped.at in
+    let begun = count in
+    subst (IsCountedAt now (spot_of to)) (sym is) (by_turn turn walk w now before after from to moves (stands) levels keeps begun rule)
 
 -- no node of a tree leads back to its own page
 leads_back : (w : World) (page : ℕ) (node : NodeValue) (place : Place) (target : Target) → page_at w page ≡ Holds node → next_place node target ≡ place → leads_to page place ≡ true → IsRightOf w target page page ⊎ IsDownOf w target page page
@@ -204,21 +202,21 @@ leads_back w page node (Down q) target is goes one = inr (node, is, goes ∙ ap 
 leads_back w page node (Here at) target is goes one = absurd (false≢true one)
 leads_back w page node End target is goes one = absurd (false≢true one)
 
-pub no_way_back : (w mid : World) (at : Root) (target : Target) (page : ℕ) (node : NodeValue) (place : Place) → mid ≡ w → (IsTrue w.founded → (t : Tree) × (leaves : List ℕ) × IsTree w at t leaves × IsNear w t target page) → page_at w page ≡ Holds node → next_place node target ≡ place → leads_to page place ≡ true → mid.founded ≡ false
-no_way_back w mid at target page node place same stands is goes one = not_founded w mid same (λ founded.
-    let here = stands founded in
+pub no_way_back : (w mid : World) (at : Root) (target : Target) (page : ℕ) (node : NodeValue) (place : Place) → mid ≡ w → ((t : Tree) × (leaves : List ℕ) × IsTree w at t leaves × IsNear w t target page) → page_at w page ≡ Holds node → next_place node target ≡ place → leads_to page place ≡ true → ⊥
+no_way_back w mid at target page node place same stands is goes one = (
+    let here = stands in
     not_onward w page (⊎_elim (λ right. right_onward w at here.0 here.1 here.3.0 here.3.1 target page page here.2 here.3.2 right) (λ down. down_onward w at here.0 here.1 target page page here.2 here.3 down) (leads_back w page node place target is goes one)))
 
 -- and no right link of a node of a tree leads to its own page
-pub no_right_back : (w mid : World) (at : Root) (leaf : Bool) (target : Target) (page right : ℕ) (node : NodeValue) → mid ≡ w → (IsTrue w.founded → (t : Tree) × (leaves : List ℕ) × IsTree w at t leaves × (low : Option Pair) × IsAt w t leaf low page) → page_at w page ≡ Holds node → Right right ≡ next_place node target → right ≡ page → mid.founded ≡ false
-no_right_back w mid at leaf target page right node same stands is goes one = not_founded w mid same (λ founded.
-    let here = stands founded in
+pub no_right_back : (w mid : World) (at : Root) (leaf : Bool) (target : Target) (page right : ℕ) (node : NodeValue) → mid ≡ w → ((t : Tree) × (leaves : List ℕ) × IsTree w at t leaves × (low : Option Pair) × IsAt w t leaf low page) → page_at w page ≡ Holds node → Right right ≡ next_place node target → right ≡ page → ⊥
+no_right_back w mid at leaf target page right node same stands is goes one = (
+    let here = stands in
     not_onward w page (right_onward w at here.0 here.1 leaf here.3 target page page here.2 here.4 (node, is, sym goes ∙ ap Right one)))
 
 -- a leaf to the left begins below the place of the search
-pub begins_lower : (walk : Walk) (w mid : World) (low : Pair) (or_at : Bool) (page : ℕ) (node : NodeValue) → Stands walk (stage.Left low or_at (way.Shared page)) w → mid ≡ w → page_at w page ≡ Holds node → begins_below node.low low ≡ false → mid.founded ≡ false
-begins_lower walk w mid low or_at page node stands same is not_lower = not_founded w mid same (λ founded.
-    let here = stands founded in
+pub begins_lower : (walk : Walk) (w mid : World) (low : Pair) (or_at : Bool) (page : ℕ) (node : NodeValue) → Stands walk (stage.Left low or_at (way.Shared page)) w → mid ≡ w → page_at w page ≡ Holds node → begins_below node.low low ≡ false → ⊥
+begins_lower walk w mid low or_at page node stands same is not_lower = (
+    let here = stands in
     let place = here.place.2.0 in
     let bound : node.low ≡ place.0 = sym (ap (λ (v : NodeValue). v.low) (one_node w page node place.1.node is place.1.is)) ∙ place.1.from in
     false≢true (sym not_lower ∙ subst (λ (start : Option Pair). begins_below start low ≡ true) (sym bound) (lower place.0 place.2)))
@@ -235,16 +233,16 @@ begins_lower walk w mid low or_at page node stands same is not_lower = not_found
             by_parts false either = either
 
 -- and so is a node above
-pub above_is_full : (walk : Walk) (s : Separator) (page right : ℕ) (node : NodeValue) (w mid : World) → Stands walk (stage.Post s (rise.Cut page right)) w → page_at w page ≡ Holds node → mid ≡ w → (is_full node ≡ true → ⊥) → mid.founded ≡ false
-above_is_full walk s page right node w mid stands is same other = not_founded w mid same (λ founded.
-    let here = stands founded in
+pub above_is_full : (walk : Walk) (s : Separator) (page right : ℕ) (node : NodeValue) (w mid : World) → Stands walk (stage.Post s (rise.Cut page right)) w → page_at w page ≡ Holds node → mid ≡ w → (is_full node ≡ true → ⊥) → ⊥
+above_is_full walk s page right node w mid stands is same other = (
+    let here = stands in
     let known = here.place.1.1.1 in
     let one : here.place.1.1.0 ≡ node = one_node w page node here.place.1.1.0 is known.0.is in
     other (ap not (subst IsPacked one known.2)))
 
 -- a walk that has counted its moves goes in no circle
-pub circle_bad : (walk : Walk) (at : Stage) (moves pages page : ℕ) (w : World) → Stands walk at w → IsCounted at moves w → pages ≡ length w.pages → circle_at (spot_of at) moves pages ≡ Some page → w.founded ≡ false
-circle_bad walk at moves pages page w stands counted all circle = not_founded w w refl (λ founded. no_circle (spot_of at) (counted_may_move w (spot_of at) moves (stands founded).apart (counted founded)) circle)
+pub circle_bad : (walk : Walk) (at : Stage) (moves pages page : ℕ) (w : World) → Stands walk at w → IsCounted at moves w → pages ≡ length w.pages → circle_at (spot_of at) moves pages ≡ Some page → ⊥
+circle_bad walk at moves pages page w stands counted all circle = (no_circle (spot_of at) (counted_may_move w (spot_of at) moves stands.apart counted) circle)
   where
     no_circle : (spot : Option Spot) → IfSome spot (λ _. moves < length w.pages) → circle_at spot moves pages ≡ Some page → ⊥
     no_circle None room is = let none : None ≡ Some page = is in absurd (cc)

@@ -15,3 +15,6 @@ pub mod RolesPost
 pub mod RolesDown
 pub mod Coming
 pub mod Onward
+pub mod Sound
+pub mod LostRules
+pub mod Turning

@@ -29,8 +29,8 @@ use Rattle.ct_tree.proofs.Done.{after_done}
 pub waits_first : (turn : Turn (Unit {0})) (walk : Walk) (w now : World) (before after : ℕ) (at : Stage) → is_done turn ≡ false → now ≡ w → LeavesLess turn before after → IsTurned turn walk w now before after at at
 waits_first (Done answer) walk w now before after at other same less = inl refl
 waits_first More walk w now before after at other same less = inl (record { same = refl; world = same; less = less })
-waits_first (Busy op) walk w now before after at other same less = inl refl
-waits_first (Refused fault) walk w now before after at other same less = refl
+waits_first (Busy op) walk w now before after at other same less = (inl refl, ap (λ (v : World). v.pages) same)
+waits_first (Refused fault) walk w now before after at other same less = (refl, same)
 
 -- what is told beside an answer
 pub rule_with : {T : Type 0} (turn : Turn (Unit {0})) (told : T) (walk : Walk) (w now : World) (before after : ℕ) (from to : Stage) → IsTurned turn walk w now before after from to → IsTurned (answer_with turn told) walk w now before after from to
@@ -127,5 +127,5 @@ way_turns More walk w mid now before middle after from between to rule way =
     subst (λ (v : World). IsOneTurn walk w v before after from to) (sym way.1)
     (subst (λ (n : ℕ). IsOneTurn walk w mid before n from to) (sym way.2)
     (subst (λ (at : Stage). IsOneTurn walk w mid before middle from at) (sym way.0) rule))
-way_turns (Busy op) walk w mid now before middle after from between to rule way = inr way
-way_turns (Refused fault) walk w mid now before middle after from between to rule way = way ∙ rule
+way_turns (Busy op) walk w mid now before middle after from between to rule way = (inr way.0, way.1 ∙ rule.1)
+way_turns (Refused fault) walk w mid now before middle after from between to rule way = (way.0 ∙ rule.0, way.1 ∙ rule.1)

@@ -14,7 +14,7 @@ use Rattle.ct_tree_laws.specs.declared.rise.Separator.{Separator}
 use Rattle.ct_tree_laws.specs.declared.rise.Rise.{Rise}
 use Rattle.ct_tree_laws.specs.declared.rise.Rise.TheVariants as rise
 use Rattle.ct_tree_laws.specs.Trees.{IsAt}
-use Rattle.ct_tree_laws.specs.Stands.{StandsIn, KeepsAt, after_post}
+use Rattle.ct_tree_laws.specs.Stands.{Stands, KeepsAt, after_post}
 use Rattle.ct_tree_laws.specs.Reached.{page_in, over_in, over_of, IsReachedIn, IsReachedAt}
 use Rattle.ct_tree_laws.proofs.Chains.{one_node}
 use Rattle.ct_tree_laws.proofs.Pages.{page_at-edited_other}
@@ -27,7 +27,7 @@ use Rattle.ct_tree.specs.Roles.{HasRole, way_from, way_moved}
 use Rattle.ct_tree.proofs.RolesWays.{Comes, ComesOver, no_over, by_page, comes_to, comes_here, root_comes, goes_on, part_at, comes_next_right, comes_next_down, role_at, role_held}
 
 -- the page that is looked at in a posting is in its role
-pub rise_role : (walk : Walk) (w : World) (separator : Separator) (rise : Rise) (reach : Reach) → StandsIn walk (stage.Post separator rise) w → IsReachedAt (page_in separator rise) reach w → HasRole (looked_in separator rise) reach w
+pub rise_role : (walk : Walk) (w : World) (separator : Separator) (rise : Rise) (reach : Reach) → Stands walk (stage.Post separator rise) w → IsReachedAt (page_in separator rise) reach w → HasRole (looked_in separator rise) reach w
 rise_role walk w separator rise.Root reach here was = tt
 rise_role walk w separator (rise.Down page above) reach here was = role_at w walk.at here.tree here.leaves here.place.1.1.0 here.place.1.1.1 reach page here.is here.place.1.1.2 was
 rise_role walk w separator (rise.Above page) reach here was = tt
@@ -56,7 +56,7 @@ way_to None page over on = refl
 way_to (Some above) page over on = refl
 
 -- on the way to the separator
-module _ (walk : Walk) (w now : World) (separator : Separator) (page : ℕ) (above : Option ℕ) (reach over : Reach) (here : StandsIn walk (stage.Post separator (rise.Down page above)) w) (keeps : KeepsAt w now) (was : IsReachedAt (Some page) reach w) where
+module _ (walk : Walk) (w now : World) (separator : Separator) (page : ℕ) (above : Option ℕ) (reach over : Reach) (here : Stands walk (stage.Post separator (rise.Down page above)) w) (keeps : KeepsAt w now) (was : IsReachedAt (Some page) reach w) where
   abbrev from_here : Stage
   from_here = stage.Post separator (rise.Down page above)
 
@@ -95,7 +95,7 @@ module _ (walk : Walk) (w now : World) (separator : Separator) (page : ℕ) (abo
       by_page now page next last over _ (λ same. absurd (other (sym same))) (λ differ. by_page now page last last reach over (λ equal. kept_at w now (Some last) reach keeps (subst (λ p. IsReachedAt (Some p) reach w) one was)) (λ apart. absurd (apart one)))
 
 -- from a node above, to the right
-past_comes : (walk : Walk) (w now : World) (separator : Separator) (page : ℕ) (next : Option Separator) (right : ℕ) (reach over : Reach) → StandsIn walk (stage.Post separator (rise.Held page next)) w → KeepsAt w now → IsReachedAt (Some page) reach w → IsPastOf w separator.low page right → Comes walk w now (stage.Post separator (rise.Held page next)) reach over (stage.Post separator (rise.Above right))
+past_comes : (walk : Walk) (w now : World) (separator : Separator) (page : ℕ) (next : Option Separator) (right : ℕ) (reach over : Reach) → Stands walk (stage.Post separator (rise.Held page next)) w → KeepsAt w now → IsReachedAt (Some page) reach w → IsPastOf w separator.low page right → Comes walk w now (stage.Post separator (rise.Held page next)) reach over (stage.Post separator (rise.Above right))
 past_comes walk w now separator page next right reach over here keeps was (node, is, outside, one) =
     let part = part_at w walk.at here.tree here.leaves false here.place.1.1.0 page node here.is here.place.1.1.1 is in
     let reached : IsReachedIn w here.tree (reach_right node) right = subst (IsReachedIn w here.tree (reach_right node)) (sym one) (reached_right w here.tree node (At separator.low) part.of part.role (held_past walk separator page next node w is outside here)) in
@@ -103,7 +103,7 @@ past_comes walk w now separator page next right reach over here keeps was (node,
     (λ differ. goes_on w now walk.at here.tree here.leaves false here.place.1.1.0 page right (way_from walk (stage.Post separator (rise.Held page next))) here.is here.place.1.1.1 keeps node (reach_right node) is refl reached)
 
 -- the right half of a cut stands as the cut left it
-right_half : (walk : Walk) (w now : World) (separator : Separator) (page right : ℕ) (leaf : Bool) (next : Separator) (node : NodeValue) → StandsIn walk (stage.Post separator (rise.Cut page right)) w → StandsIn walk (stage.Post separator (rise.Held right (Some next))) now → CutsFull leaf page right w now → page_at w page ≡ Holds node → next.child ≡ right → slice_get (pairs_in node) (middle_of node) ≡ Some next.low → (page ≡ right → ⊥) → IsReachedAt (Some right) (reach_half node) now
+right_half : (walk : Walk) (w now : World) (separator : Separator) (page right : ℕ) (leaf : Bool) (next : Separator) (node : NodeValue) → Stands walk (stage.Post separator (rise.Cut page right)) w → Stands walk (stage.Post separator (rise.Held right (Some next))) now → CutsFull leaf page right w now → page_at w page ≡ Holds node → next.child ≡ right → slice_get (pairs_in node) (middle_of node) ≡ Some next.low → (page ≡ right → ⊥) → IsReachedAt (Some right) (reach_half node) now
 right_half walk w now separator page right leaf next node here there cuts is child low differ =
     let half = there.place.1.4.0 in
     let at : IsAt now there.tree half.0 (Some next.low) right = subst (IsAt now there.tree half.0 (Some next.low)) child half.1 in
@@ -123,7 +123,7 @@ right_half walk w now separator page right leaf next node here there cuts is chi
       },
     )
 
-half_comes : (walk : Walk) (w now : World) (separator : Separator) (page right : ℕ) (leaf : Bool) (to : Stage) (reach over : Reach) → StandsIn walk (stage.Post separator (rise.Cut page right)) w → StandsIn walk to now → KeepsAt w now → IsReachedAt (Some page) reach w → CutsFull leaf page right w now → KeepsHalf w separator page right to → Comes walk w now (stage.Post separator (rise.Cut page right)) reach over to
+half_comes : (walk : Walk) (w now : World) (separator : Separator) (page right : ℕ) (leaf : Bool) (to : Stage) (reach over : Reach) → Stands walk (stage.Post separator (rise.Cut page right)) w → Stands walk to now → KeepsAt w now → IsReachedAt (Some page) reach w → CutsFull leaf page right w now → KeepsHalf w separator page right to → Comes walk w now (stage.Post separator (rise.Cut page right)) reach over to
 half_comes walk w now separator page right leaf to reach over here there keeps was cuts (half, next, node, which, child, is, low, one) =
     subst (Comes walk w now (stage.Post separator (rise.Cut page right)) reach over) (sym one)
     (comes_to walk w now (stage.Post separator (rise.Cut page right)) (stage.Post separator (rise.Held half (Some next))) reach over page half refl refl (kept_at w now (Some page) reach keeps was)
@@ -131,11 +131,11 @@ half_comes walk w now separator page right leaf to reach over here there keeps w
   where
     to_right : half ≡ right → (page ≡ half → ⊥) → IsReachedAt (Some half) (reach_half node) now
     to_right same differ =
-        let after = subst (λ at. StandsIn walk at now) (one ∙ ap (λ h. stage.Post separator (rise.Held h (Some next))) same) there in
+        let after = subst (λ at. Stands walk at now) (one ∙ ap (λ h. stage.Post separator (rise.Held h (Some next))) same) there in
         subst (λ h. IsReachedAt (Some h) (reach_half node) now) (sym same) (right_half walk w now separator page right leaf next node here after cuts is child low (λ equal. differ (equal ∙ sym same)))
 
 -- the old root, which is still the root
-left_comes : (walk : Walk) (now : World) (separator : Separator) → StandsIn walk (stage.Post separator rise.Grow) now → IsReachedAt (Some separator.left) (reach_root walk.at walk.target) now
+left_comes : (walk : Walk) (now : World) (separator : Separator) → Stands walk (stage.Post separator rise.Grow) now → IsReachedAt (Some separator.left) (reach_root walk.at walk.target) now
 left_comes walk now separator there =
     (there.tree, subst (IsReachedIn now there.tree (reach_root walk.at walk.target)) (root_left walk separator now there.tree there.leaves there.apart there.is there.place.1.1) (reached_root now walk.at there.tree there.leaves walk.target there.is there.key))
 
@@ -148,7 +148,7 @@ posted_over None = refl
 posted_over (Some next) = refl
 
 -- the page of a posting stands as it was reached after a turn
-pub rise_comes : (walk : Walk) (w now : World) (separator : Separator) (rise : Rise) (to : Stage) (reach over : Reach) → StandsIn walk (stage.Post separator rise) w → StandsIn walk to now → KeepsAt w now → IsReachedAt (page_in separator rise) reach w → IsReachedAt (over_in rise) over w → GoesUp walk w now separator rise to → Comes walk w now (stage.Post separator rise) reach over to
+pub rise_comes : (walk : Walk) (w now : World) (separator : Separator) (rise : Rise) (to : Stage) (reach over : Reach) → Stands walk (stage.Post separator rise) w → Stands walk to now → KeepsAt w now → IsReachedAt (page_in separator rise) reach w → IsReachedAt (over_in rise) over w → GoesUp walk w now separator rise to → Comes walk w now (stage.Post separator rise) reach over to
 rise_comes walk w now separator rise.Root to reach over here there keeps was known (same, (page, root, goes)) =
     ⊎_elim (λ is. subst (Comes walk w now (stage.Post separator rise.Root) reach over) (sym is) tt)
     (λ is. subst (Comes walk w now (stage.Post separator rise.Root) reach over) (sym is) (root_comes walk w now (stage.Post separator rise.Root) page here keeps root)) goes
@@ -180,7 +180,7 @@ rise_comes walk w now separator (rise.Split page right) to reach over here there
 rise_comes walk w now separator (rise.Cut page right) to reach over here there keeps was known (leaf, cuts, half) = half_comes walk w now separator page right leaf to reach over here there keeps was cuts half
 rise_comes walk w now separator rise.Again to reach over here there keeps was known (same, is) = subst (Comes walk w now (stage.Post separator rise.Again) reach over) (sym is) tt
 rise_comes walk w now separator rise.Named to reach over here there keeps was known (same, (page, root, goes)) =
-    ⊎_elim (λ is. subst (Comes walk w now (stage.Post separator rise.Named) reach over) (sym is) (left_comes walk now separator (subst (λ at. StandsIn walk at now) is there)))
+    ⊎_elim (λ is. subst (Comes walk w now (stage.Post separator rise.Named) reach over) (sym is) (left_comes walk now separator (subst (λ at. Stands walk at now) is there)))
     (λ is. subst (Comes walk w now (stage.Post separator rise.Named) reach over) (sym is) (root_comes walk w now (stage.Post separator rise.Named) page here keeps root)) goes
 rise_comes walk w now separator rise.Grow to reach over here there keeps was known (more, is) =
     subst (Comes walk w now (stage.Post separator rise.Grow) reach over) (sym is) (comes_here walk w now (stage.Post separator rise.Grow) (stage.Post separator (rise.Crown (length w.pages))) reach over separator.left refl refl (kept_at w now (Some separator.left) reach keeps was))
@@ -189,7 +189,7 @@ rise_comes walk w now separator (rise.Crown root) to reach over here there keeps
 rise_comes walk w now separator (rise.Crowned root) to reach over here there keeps was known (named, is) = subst (Comes walk w now (stage.Post separator (rise.Crowned root)) reach over) (sym is) tt
 
 -- and so does the page above that it remembers
-pub rise_over : (walk : Walk) (w now : World) (separator : Separator) (rise : Rise) (to : Stage) (reach over : Reach) → StandsIn walk (stage.Post separator rise) w → KeepsAt w now → IsReachedAt (page_in separator rise) reach w → IsReachedAt (over_in rise) over w → GoesUp walk w now separator rise to → ComesOver now (stage.Post separator rise) reach over to
+pub rise_over : (walk : Walk) (w now : World) (separator : Separator) (rise : Rise) (to : Stage) (reach over : Reach) → Stands walk (stage.Post separator rise) w → KeepsAt w now → IsReachedAt (page_in separator rise) reach w → IsReachedAt (over_in rise) over w → GoesUp walk w now separator rise to → ComesOver now (stage.Post separator rise) reach over to
 rise_over walk w now separator rise.Root to reach over here keeps was known (same, (page, root, goes)) = no_over now (stage.Post separator rise.Root) to reach over (⊎_elim (λ is. ap over_of is) (λ is. ap over_of is) goes)
 rise_over walk w now separator (rise.Down page above) to reach over here keeps was known (same, goes) =
     ⊎_elim (λ is. none (ap over_of is))

@@ -13,7 +13,7 @@ use Rattle.ct_node.specs.Worlds.{World, PageValue, Holds, page_at, is_fresh}
 use Rattle.ct_tree_laws.specs.declared.walk.Walk.{Walk}
 use Rattle.ct_tree_laws.specs.declared.walk.Stage.{Stage}
 use Rattle.ct_tree_laws.specs.Trees.{Tree, IsOf, IsAt, IsInRole, IsTree}
-use Rattle.ct_tree_laws.specs.Stands.{StandsIn, KeepsAt}
+use Rattle.ct_tree_laws.specs.Stands.{Stands, KeepsAt}
 use Rattle.ct_tree_laws.specs.Reached.{page_of, over_of, IsReachedIn, IsReachedAt}
 use Rattle.ct_tree_laws.proofs.Chains.{one_node}
 use Rattle.ct_tree_laws.proofs.PostingTurns.{root_row}
@@ -52,7 +52,7 @@ pub comes_here : (walk : Walk) (w now : World) (from to : Stage) (reach over : R
 comes_here walk w now from to reach over page was is here = comes_to walk w now from to reach over page page was is here (λ differ. absurd (differ refl))
 
 -- the root, to which a walk comes from no page
-pub root_comes : (walk : Walk) (w now : World) (from : Stage) (page : ℕ) → StandsIn walk from w → KeepsAt w now → IsRoot walk.at page w → IsReachedAt (Some page) (reach_root walk.at walk.target) now
+pub root_comes : (walk : Walk) (w now : World) (from : Stage) (page : ℕ) → Stands walk from w → KeepsAt w now → IsRoot walk.at page w → IsReachedAt (Some page) (reach_root walk.at walk.target) now
 root_comes walk w now from page here keeps (row, named, is) =
     let one : here.is.row.root ≡ page = sym (is ∙ ap (λ (r : IndexRow). r.root) (root_row w walk here.tree here.leaves here.is row named)) in
     kept_at w now (Some page) (reach_root walk.at walk.target) keeps (here.tree, subst (IsReachedIn w here.tree (reach_root walk.at walk.target)) one (reached_root w walk.at here.tree here.leaves walk.target here.is here.key))

@@ -1,5 +1,5 @@
 -- What a turn's answer says of the pairs, and of who is in the way.
-use Rattle.std.specs.Prelude.{◌≡◌, ℕ, Bool, true, false, List, Option, Some, find, ◌⊎◌, ◌&&◌, ◌==◌, not, length, IsTrue, if◌then◌else◌, reverse}
+use Rattle.std.specs.Prelude.{◌≡◌, ℕ, Bool, true, false, List, Option, Some, find, ◌⊎◌, ◌&&◌, ◌==◌, not, length, if◌then◌else◌, reverse}
 use Rattle.ct_disk.specs.declared.turn.Turn.{Turn}
 use Rattle.ct_disk.specs.declared.turn.Turn.TheVariants.{Done, More, Busy, Refused}
 use Rattle.ct_latch.specs.declared.hold.Hold.{Hold}
@@ -11,7 +11,7 @@ use Rattle.ct_node.specs.Nodes.{NodeValue, is_within, has_pair}
 use Rattle.ct_node.specs.Places.{is_ahead}
 use Rattle.ct_node.specs.Roles.{begins_at_low}
 use Rattle.ct_node.specs.declared.root.Mark.{Mark}
-use Rattle.ct_node.specs.Worlds.{World, no_mark}
+use Rattle.ct_node.specs.Worlds.{World, no_mark, Effect}
 use Rattle.ct_tree_laws.specs.declared.walk.Walk.{Walk}
 use Rattle.ct_tree_laws.specs.declared.walk.Stage.{Stage}
 use Rattle.ct_tree_laws.specs.declared.walk.Stage.TheVariants as stage
@@ -89,7 +89,7 @@ TakesKeys walk (Refused fault) w now = KeepsKeys w now
 
 -- that turn tells whether the pair was there
 abbrev pub TellsTaken : Walk → Turn (Unit {0}) → Bool → World → Type 0
-TellsTaken walk (Done answer) found w = IsTrue w.founded → (keys : List Pair) → Chain w walk.at keys → found ≡ has_at walk.target keys
+TellsTaken walk (Done answer) found w = (keys : List Pair) → Chain w walk.at keys → found ≡ has_at walk.target keys
 TellsTaken walk More found w = Unit {0}
 TellsTaken walk (Busy op) found w = Unit {0}
 TellsTaken walk (Refused fault) found w = Unit {0}
@@ -111,7 +111,7 @@ found_by Below target keys = found_left false target keys
 
 -- the turn that ends a search tells what is found among the pairs as they stand at it
 abbrev pub TellsFound : Walk → (Target → List Pair → Option Pair) → Turn (Unit {0}) → Option Pair → World → Type 0
-TellsFound walk found_at (Done answer) found w = IsTrue w.founded → (keys : List Pair) → Chain w walk.at keys → found ≡ found_at walk.target keys
+TellsFound walk found_at (Done answer) found w = (keys : List Pair) → Chain w walk.at keys → found ≡ found_at walk.target keys
 TellsFound walk found_at More found w = Unit {0}
 TellsFound walk found_at (Busy op) found w = Unit {0}
 TellsFound walk found_at (Refused fault) found w = Unit {0}
@@ -232,14 +232,14 @@ TakenKeys walk (Busy op) w now = KeepsKeys w now
 TakenKeys walk (Refused fault) w now = KeepsKeys w now
 
 abbrev pub IsTaken : Walk → Turn Bool → World → Type 0
-IsTaken walk (Done found) w = IsTrue w.founded → (keys : List Pair) → Chain w walk.at keys → found ≡ has_at walk.target keys
+IsTaken walk (Done found) w = (keys : List Pair) → Chain w walk.at keys → found ≡ has_at walk.target keys
 IsTaken walk More w = Unit {0}
 IsTaken walk (Busy op) w = Unit {0}
 IsTaken walk (Refused fault) w = Unit {0}
 
 -- the turn that ends a search finds its pair among those that stand at it
 abbrev pub IsFound : Walk → (Target → List Pair → Option Pair) → Turn (Option Pair) → World → Type 0
-IsFound walk found_at (Done found) w = IsTrue w.founded → (keys : List Pair) → Chain w walk.at keys → found ≡ found_at walk.target keys
+IsFound walk found_at (Done found) w = (keys : List Pair) → Chain w walk.at keys → found ≡ found_at walk.target keys
 IsFound walk found_at More w = Unit {0}
 IsFound walk found_at (Busy op) w = Unit {0}
 IsFound walk found_at (Refused fault) w = Unit {0}
@@ -260,25 +260,36 @@ IsSeeking above (stage.Left low or_at way) = ⊥
 IsSeeking above (stage.Post separator rise) = ⊥
 IsSeeking above stage.Ended = ⊥
 
--- the edit that puts a pair bears the put's mark: where the pair is there already no edit is made; no other edit of a put bears a mark
-abbrev pub BearsPut : Walk → Mark → Turn (Unit {0}) → World → Mark → Mark → Type 0
-BearsPut walk mark (Done answer) w before now = IsTrue w.founded → (keys : List Pair) → Chain w walk.at keys → now ≡ (if has_at walk.target keys then before else mark)
-BearsPut walk mark More w before now = (now ≡ before) ⊎ (now ≡ no_mark)
-BearsPut walk mark (Busy op) w before now = (now ≡ before) ⊎ (now ≡ no_mark)
-BearsPut walk mark (Refused fault) w before now = (now ≡ before) ⊎ (now ≡ no_mark)
+-- a turn makes the step with this mark or none where it is done, and no other turn makes a step
+abbrev pub GoesBy : {T : Type 0} → Turn T → Mark → (Mark → Type 0) → Type 0
+GoesBy (Done answer) mark goes = goes mark ⊎ goes no_mark
+GoesBy More mark goes = goes no_mark
+GoesBy (Busy op) mark goes = goes no_mark
+GoesBy (Refused fault) mark goes = goes no_mark
 
--- the edit that takes a pair bears the take's mark, and a take makes no other
-abbrev pub BearsTake : Mark → Turn (Unit {0}) → Bool → Mark → Mark → Type 0
-BearsTake mark (Done answer) found before now = now ≡ (if found then mark else before)
-BearsTake mark More found before now = now ≡ before
-BearsTake mark (Busy op) found before now = now ≡ before
-BearsTake mark (Refused fault) found before now = now ≡ before
+-- the turn that ends a put makes its step, unless the pair is there
+abbrev pub BearsPut : Walk → Mark → Turn (Unit {0}) → World → (Mark → Type 0) → Type 0
+BearsPut walk mark (Done answer) w goes = (keys : List Pair) → Chain w walk.at keys → goes (if has_at walk.target keys then no_mark else mark)
+BearsPut walk mark More w goes = Unit {0}
+BearsPut walk mark (Busy op) w goes = Unit {0}
+BearsPut walk mark (Refused fault) w goes = Unit {0}
 
-abbrev pub BearsTaken : Mark → Turn Bool → Mark → Mark → Type 0
-BearsTaken mark (Done found) before now = now ≡ (if found then mark else before)
-BearsTaken mark More before now = now ≡ before
-BearsTaken mark (Busy op) before now = now ≡ before
-BearsTaken mark (Refused fault) before now = now ≡ before
+-- the turn that ends a take makes its step where the pair was there; no other turn of it makes a step
+abbrev pub BearsTake : Mark → Turn (Unit {0}) → Bool → (Mark → Type 0) → Type 0
+BearsTake mark (Done answer) found goes = goes (if found then mark else no_mark)
+BearsTake mark More found goes = goes no_mark
+BearsTake mark (Busy op) found goes = goes no_mark
+BearsTake mark (Refused fault) found goes = goes no_mark
+
+abbrev pub BearsTaken : Mark → Turn Bool → (Mark → Type 0) → Type 0
+BearsTaken mark (Done found) goes = goes (if found then mark else no_mark)
+BearsTaken mark More goes = goes no_mark
+BearsTaken mark (Busy op) goes = goes no_mark
+BearsTaken mark (Refused fault) goes = goes no_mark
+
+-- an operation bears no mark, or one that is allowed for its own pair
+abbrev pub MayBear : (Mark → Effect → Type 0) → Mark → Target → (Pair → Effect) → Type 0
+MayBear allows mark target effect = (mark ≡ no_mark) ⊎ ((pair : Pair) → target ≡ At pair → allows mark (effect pair))
 
 -- whether a node is an inner one that begins at its low bound, with keys as long as a pair's
 abbrev pub is_above_for : NodeValue → Pair → Bool

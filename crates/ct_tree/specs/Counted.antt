@@ -1,5 +1,5 @@
--- That no walk comes to a page twice where operations alone made the pages.
-use Rattle.std.specs.Prelude.{◌≡◌, ℕ, ◌<◌, List, [], ◌∷◌, length, Bool, Option, Some, None, ◌⊎◌, IsTrue}
+-- That no walk comes to a page twice in a sound store.
+use Rattle.std.specs.Prelude.{◌≡◌, ℕ, ◌<◌, List, [], ◌∷◌, length, Bool, Option, Some, None, ◌⊎◌}
 use Rattle.ct_definitions.specs.Pairs.{Pair}
 use Rattle.ct_node.specs.Worlds.{World, IsLevel}
 use Rattle.ct_tree_laws.specs.declared.walk.Stage.{Stage}
@@ -36,4 +36,4 @@ IsCountedAt w (Some spot) moves = (pages : List ℕ) × (length pages ≡ moves)
 
 -- what an operation has counted: the pages that its walk has come from
 abbrev pub IsCounted : Stage → ℕ → World → Type 0
-IsCounted at moves w = IsTrue w.founded → IsCountedAt w (spot_of at) moves
+IsCounted at moves w = IsCountedAt w (spot_of at) moves

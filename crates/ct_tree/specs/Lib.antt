@@ -9,3 +9,4 @@ pub mod Rules
 pub mod Roles
 pub mod Ends
 pub mod Counted
+pub mod Remembered

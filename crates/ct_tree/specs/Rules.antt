@@ -158,16 +158,16 @@ pub record Waits (w now : World) (before after : ℕ) (from to : Stage) : Type 0
 abbrev pub IsOneTurn : Walk → World → World → ℕ → ℕ → Stage → Stage → Type 0
 IsOneTurn walk w now before after from to = Waits w now before after from to ⊎ Goes walk w now from to
 
--- how a turn goes on: one that answers More goes by its rule, one that is refused stays where it is; one that is busy stays or begins again, and one that is done stays or has ended
+-- how a turn goes on: one that answers More goes by its rule, one that is refused stays where it is, and so does all; one that is busy stays or begins again, and leaves the pages; and one that is done stays or has ended
 abbrev pub IsTurned : {T : Type 0} → Turn T → Walk → World → World → ℕ → ℕ → Stage → Stage → Type 0
 IsTurned (Done answer) walk w now before after from to = (to ≡ from) ⊎ (to ≡ stage.Ended)
 IsTurned More walk w now before after from to = IsOneTurn walk w now before after from to
-IsTurned (Busy op) walk w now before after from to = (to ≡ from) ⊎ (to ≡ stage.Start)
-IsTurned (Refused fault) walk w now before after from to = to ≡ from
+IsTurned (Busy op) walk w now before after from to = ((to ≡ from) ⊎ (to ≡ stage.Start)) × Visits w now
+IsTurned (Refused fault) walk w now before after from to = (to ≡ from) × (now ≡ w)
 
 -- a search that is busy begins again, and any other is as it was
 abbrev pub GivesWay : {T : Type 0} → Turn T → World → World → ℕ → ℕ → Stage → Stage → Type 0
 GivesWay (Done answer) w now before after from to = to ≡ from
 GivesWay More w now before after from to = (to ≡ from) × (now ≡ w) × (after ≡ before)
-GivesWay (Busy op) w now before after from to = to ≡ stage.Start
-GivesWay (Refused fault) w now before after from to = to ≡ from
+GivesWay (Busy op) w now before after from to = (to ≡ stage.Start) × Visits w now
+GivesWay (Refused fault) w now before after from to = (to ≡ from) × (now ≡ w)

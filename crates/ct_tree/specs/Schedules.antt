@@ -7,21 +7,21 @@ use Rattle.ct_definitions.specs.Pairs.{Pair}
 use Rattle.ct_node.specs.declared.root.Root.{Root}
 use Rattle.ct_node.specs.declared.target.Target.{Target}
 use Rattle.ct_node.specs.declared.target.Target.TheVariants.{At}
-use Rattle.ct_node.specs.Worlds.{World}
+use Rattle.ct_node.specs.declared.root.Mark.{Mark}
+use Rattle.ct_node.specs.Worlds.{World, Effect, Adds, Drops, no_mark}
 use Rattle.ct_tree_laws.specs.declared.walk.Walk.{Walk}
 use Rattle.ct_tree_laws.specs.declared.walk.Stage.{Stage}
 use Rattle.ct_tree_laws.specs.declared.walk.Stage.TheVariants as stage
-use Rattle.ct_tree_laws.specs.Stands.{Stands, is_same_root}
+use Rattle.ct_tree_laws.specs.Stands.{is_same_root}
 use Rattle.ct_tree.specs.declared.program.Program.{Program}
 use Rattle.ct_tree.specs.declared.program.Program.TheVariants as program
 use Rattle.ct_tree.specs.declared.program.Answer.{Answer}
 use Rattle.ct_tree.specs.declared.program.Answer.TheVariants as answer
 use Rattle.ct_tree.specs.declared.program.Happened.{Happened}
-use Rattle.ct_tree.specs.Answers.{IsPair, put_at, take_at, has_at, IsPutting, IsTaking, found_by, IsSearchingBy}
+use Rattle.ct_tree.specs.Answers.{IsPair, MayBear, put_at, take_at, has_at, IsPutting, IsTaking, found_by, IsSearchingBy}
 use Rattle.ct_tree.specs.declared.seek.Seek.{Seek}
-use Rattle.ct_tree.specs.Counted.{IsCounted}
 use Rattle.ct_tree.specs.declared.roles.Ways.{Ways}
-use Rattle.ct_tree.specs.Roles.{HasCome}
+use Rattle.ct_tree.specs.Remembered.{Remembers}
 
 -- what an operation is to do
 pub data Task : Type 0 where
@@ -90,9 +90,25 @@ is_ended (stage.Left low or_at way) = false
 is_ended (stage.Post separator rise) = false
 is_ended stage.Ended = true
 
--- what an operation remembers stands, its moves are counted, and its page stands as it has come there
+-- what an operation remembers stands
 abbrev pub IsStanding : World → Program → Type 0
-IsStanding w program = Stands (walk_of program) (stage_of program) w × IsCounted (stage_of program) (moves_of program) w × HasCome (stage_of program) (ways_of program) w
+IsStanding w program = Remembers (walk_of program) (stage_of program) (moves_of program) (ways_of program) w
+
+-- the mark that an operation bears; a search bears none
+abbrev pub mark_of : Program → Mark
+mark_of (program.Put put) = put.mark
+mark_of (program.Take take) = take.mark
+mark_of (program.Search search) = no_mark
+
+-- a task may make the step that bears this mark, if it is one
+abbrev pub MayDo : (Mark → Effect → Type 0) → Mark → Task → Type 0
+MayDo allows mark (Puts at target) = MayBear allows mark target (Adds at)
+MayDo allows mark (Takes at target) = MayBear allows mark target (Drops at)
+MayDo allows mark (Searches at target seek) = Unit {0}
+
+-- an operation may make the step that bears its mark
+abbrev pub MayMark : (ℕ → Mark → Effect → Type 0) → Program → Type 0
+MayMark allows program = MayDo (allows (walk_of program).op) (mark_of program) (task_of program)
 
 -- so it is of all these operations
 abbrev pub AllStand : List Program → World → Type 0

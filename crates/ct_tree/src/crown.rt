@@ -1,10 +1,10 @@
 //! A new root over the two halves of the old one: written while the definition page is the
 //! operation's own, and then named there.
 
-ghost use Rattle.std.specs.Prelude.{◌≡◌, ◌≤◌, ◌⊎◌, IsTrue, false, true, length, replicate};
+ghost use Rattle.std.specs.Prelude.{◌≡◌, ◌≤◌, ◌⊎◌, false, true, length, replicate};
 ghost use Rattle.ct_node.specs.Worlds.{no_mark};
 ghost use Rattle.ct_node.specs.Turns.{OnBusy, CausedTurn};
-ghost use Rattle.ct_tree_laws.specs.Stands.{Stands, Stepped, KeepsKeys, node_over};
+ghost use Rattle.ct_tree_laws.specs.Stands.{KeepsKeys, node_over, Turns};
 ghost use Rattle.ct_tree.specs.Answers.{is_done, IsInTheWay, IsPutting};
 ghost use Rattle.ct_tree.specs.Rules.{IsTurned};
 
@@ -21,13 +21,11 @@ pub(crate) fn own_definition<N: Nodes>(
     nodes: &mut N,
     separator: Separator,
 ) -> (Stage, Turn<()>)
-    requires { Stands walk.now (Stage.Post separator Rise.Again) (N.world nodes.old) }
-    ensures stepped { Stepped walk.now result.0 (N.world nodes.old) (N.world nodes.new) }
+    ensures turned { Turns (N.sound nodes.old) (N.sound nodes.new) walk.now (Stage.Post separator Rise.Again) result.0 KeepsKeys (N.world nodes.old) (N.world nodes.new) }
     ensures rule { IsTurned result.1 walk.now (N.world nodes.old) (N.world nodes.new) (N.left nodes.old) (N.left nodes.new) (Stage.Post separator Rise.Again) result.0 }
-    ensures keys { KeepsKeys (N.world nodes.old) (N.world nodes.new) }
     ensures going { is_done result.1 ≡ false }
     ensures putting { IsPutting result.0 }
-    ensures bears { N.marked nodes.new ≡ N.marked nodes.old }
+    ensures goes { N.goes nodes.old no_mark nodes.new }
     ensures busy { OnBusy result.1 (IsInTheWay (N.flushes nodes.old) (N.world nodes.old) walk.now.op) }
     ensures cause { CausedTurn result.1 (N.faults nodes.old) (N.faults nodes.new) (N.halted nodes.old) (N.halted nodes.new) }
 {
@@ -47,13 +45,11 @@ pub(crate) fn name_again<N: Nodes>(
     nodes: &mut N,
     separator: Separator,
 ) -> (Stage, Turn<()>)
-    requires { Stands walk.now (Stage.Post separator Rise.Named) (N.world nodes.old) }
-    ensures stepped { Stepped walk.now result.0 (N.world nodes.old) (N.world nodes.new) }
+    ensures turned { Turns (N.sound nodes.old) (N.sound nodes.new) walk.now (Stage.Post separator Rise.Named) result.0 KeepsKeys (N.world nodes.old) (N.world nodes.new) }
     ensures rule { IsTurned result.1 walk.now (N.world nodes.old) (N.world nodes.new) (N.left nodes.old) (N.left nodes.new) (Stage.Post separator Rise.Named) result.0 }
-    ensures keys { KeepsKeys (N.world nodes.old) (N.world nodes.new) }
     ensures going { is_done result.1 ≡ false }
     ensures putting { IsPutting result.0 }
-    ensures bears { N.marked nodes.new ≡ N.marked nodes.old }
+    ensures goes { N.goes nodes.old no_mark nodes.new }
     ensures busy { OnBusy result.1 (IsInTheWay (N.flushes nodes.old) (N.world nodes.old) walk.now.op) }
     ensures cause { CausedTurn result.1 (N.faults nodes.old) (N.faults nodes.new) (N.halted nodes.old) (N.halted nodes.new) }
 {
@@ -88,13 +84,11 @@ pub(crate) fn allocate_root<N: Nodes>(
     nodes: &mut N,
     separator: Separator,
 ) -> (Stage, Turn<()>)
-    requires { Stands walk.now (Stage.Post separator Rise.Grow) (N.world nodes.old) }
-    ensures stepped { Stepped walk.now result.0 (N.world nodes.old) (N.world nodes.new) }
+    ensures turned { Turns (N.sound nodes.old) (N.sound nodes.new) walk.now (Stage.Post separator Rise.Grow) result.0 KeepsKeys (N.world nodes.old) (N.world nodes.new) }
     ensures rule { IsTurned result.1 walk.now (N.world nodes.old) (N.world nodes.new) (N.left nodes.old) (N.left nodes.new) (Stage.Post separator Rise.Grow) result.0 }
-    ensures keys { KeepsKeys (N.world nodes.old) (N.world nodes.new) }
     ensures going { is_done result.1 ≡ false }
     ensures putting { IsPutting result.0 }
-    ensures bears { N.marked nodes.new ≡ N.marked nodes.old }
+    ensures goes { N.goes nodes.old no_mark nodes.new }
     ensures busy { OnBusy result.1 (IsInTheWay (N.flushes nodes.old) (N.world nodes.old) walk.now.op) }
     ensures cause { CausedTurn result.1 (N.faults nodes.old) (N.faults nodes.new) (N.halted nodes.old) (N.halted nodes.new) }
 {
@@ -127,14 +121,12 @@ pub(crate) fn write_root<N: Nodes>(
     separator: Separator,
     root: u64,
 ) -> (Stage, Turn<()>)
-    requires stands { Stands walk.now (Stage.Post separator (Rise.Crown root)) (N.world nodes.old) }
     requires shown { N.shows nodes.old separator.left }
-    ensures stepped { Stepped walk.now result.0 (N.world nodes.old) (N.world nodes.new) }
+    ensures turned { Turns (N.sound nodes.old) (N.sound nodes.new) walk.now (Stage.Post separator (Rise.Crown root)) result.0 KeepsKeys (N.world nodes.old) (N.world nodes.new) }
     ensures rule { IsTurned result.1 walk.now (N.world nodes.old) (N.world nodes.new) (N.left nodes.old) (N.left nodes.new) (Stage.Post separator (Rise.Crown root)) result.0 }
-    ensures keys { KeepsKeys (N.world nodes.old) (N.world nodes.new) }
     ensures going { is_done result.1 ≡ false }
     ensures putting { IsPutting result.0 }
-    ensures bears { (N.marked nodes.new ≡ N.marked nodes.old) ⊎ (N.marked nodes.new ≡ no_mark) }
+    ensures goes { N.goes nodes.old no_mark nodes.new }
     ensures busy { OnBusy result.1 (IsInTheWay (N.flushes nodes.old) (N.world nodes.old) walk.now.op) }
     ensures cause { CausedTurn result.1 (N.faults nodes.old) (N.faults nodes.new) (N.halted nodes.old) (N.halted nodes.new) }
 {
@@ -189,13 +181,11 @@ pub(crate) fn name_root<N: Nodes>(
     separator: Separator,
     root: u64,
 ) -> (Stage, Turn<()>)
-    requires { Stands walk.now (Stage.Post separator (Rise.Crowned root)) (N.world nodes.old) }
-    ensures stepped { Stepped walk.now result.0 (N.world nodes.old) (N.world nodes.new) }
+    ensures turned { Turns (N.sound nodes.old) (N.sound nodes.new) walk.now (Stage.Post separator (Rise.Crowned root)) result.0 KeepsKeys (N.world nodes.old) (N.world nodes.new) }
     ensures rule { IsTurned result.1 walk.now (N.world nodes.old) (N.world nodes.new) (N.left nodes.old) (N.left nodes.new) (Stage.Post separator (Rise.Crowned root)) result.0 }
-    ensures keys { KeepsKeys (N.world nodes.old) (N.world nodes.new) }
     ensures going { is_done result.1 ≡ false }
     ensures putting { IsPutting result.0 }
-    ensures bears { N.marked nodes.new ≡ N.marked nodes.old }
+    ensures goes { N.goes nodes.old no_mark nodes.new }
     ensures busy { OnBusy result.1 (IsInTheWay (N.flushes nodes.old) (N.world nodes.old) walk.now.op) }
     ensures cause { CausedTurn result.1 (N.faults nodes.old) (N.faults nodes.new) (N.halted nodes.old) (N.halted nodes.new) }
 {

@@ -1,11 +1,11 @@
 //! The way from the root to the leaf of a target.
 
-ghost use Rattle.std.specs.Prelude.{◌≡◌, ◌==◌, ◌&&◌, IsTrue, IfSome, Some, false, true, length};
+ghost use Rattle.std.specs.Prelude.{◌≡◌, ◌==◌, ◌&&◌, ℕ, List, IfSome, Some, false, true, length};
 ghost use Rattle.ct_node.specs.Turns.{OnDone, OnBusy, CausedTurn, LeavesLess};
-ghost use Rattle.ct_node.specs.declared.root.Mark.{Mark};
+ghost use Rattle.ct_node.specs.Worlds.{no_mark};
 ghost use Rattle.ct_tree.specs.Moves.{looked_at};
 ghost use Rattle.ct_tree.specs.Roles.{HasRole, Arrives};
-ghost use Rattle.ct_tree_laws.specs.Stands.{Stands, Stepped, KeepsKeys};
+ghost use Rattle.ct_tree_laws.specs.Stands.{Turns, KeepsKeys};
 ghost use Rattle.ct_tree.specs.Answers.{is_done, IsInTheWay, IsPutting, IsTaking, IsFinding, IsSearching, answer_with, is_for};
 ghost use Rattle.ct_tree.specs.Rules.{IsTurned, leads_to};
 
@@ -28,14 +28,13 @@ pub(crate) fn is_done(turn: &Turn<()>) -> bool
 
 /// Looks at a page, if there is one to be looked at. A node that is outside its role is refused.
 pub(crate) fn visit<N: Nodes>(op: u64, page: Option<u64>, reach: &Reach, nodes: &mut N) -> Turn<()>
-    requires { IsTrue (N.world nodes.old).founded → HasRole page reach.now (N.world nodes.old) }
     ensures shown { OnDone result (λ _. IfSome page (N.shows nodes.new)) }
     ensures role { OnDone result (λ _. HasRole page reach.now (N.world nodes.old)) }
-    ensures marked { N.marked nodes.new ≡ N.marked nodes.old }
+    ensures sound { (lost : List ℕ) → N.sound nodes.old lost → HasRole page reach.now (N.world nodes.old) → N.sound nodes.new lost }
+    ensures goes { N.goes nodes.old no_mark nodes.new }
     ensures world { N.world nodes.new ≡ N.world nodes.old }
     ensures busy { OnBusy result (λ other. N.flushes nodes.old ≡ Some other) }
     ensures flushes { OnDone result (λ _. N.flushes nodes.new ≡ N.flushes nodes.old) }
-    ensures marks { OnDone result (λ _. (mark : Mark) → N.allows nodes.old op mark → N.allows nodes.new op mark) }
     ensures left { LeavesLess result (N.left nodes.old) (N.left nodes.new) }
     ensures cause { CausedTurn result (N.faults nodes.old) (N.faults nodes.new) (N.halted nodes.old) (N.halted nodes.new) }
 {
@@ -60,16 +59,14 @@ pub(crate) fn start<N: Nodes>(
     nodes: &mut N,
 ) -> Turn<()>
     requires at { stage.old ≡ Stage.Start }
-    requires stands { Stands walk.now Stage.Start (N.world nodes.old) }
-    ensures stepped { Stepped walk.now stage.new (N.world nodes.old) (N.world nodes.new) }
+    ensures turned { Turns (N.sound nodes.old) (N.sound nodes.new) walk.now Stage.Start stage.new KeepsKeys (N.world nodes.old) (N.world nodes.new) }
     ensures rule { IsTurned result walk.now (N.world nodes.old) (N.world nodes.new) (N.left nodes.old) (N.left nodes.new) Stage.Start stage.new }
-    ensures keys { KeepsKeys (N.world nodes.old) (N.world nodes.new) }
     ensures going { is_done result ≡ false }
     ensures putting { IsPutting stage.new }
     ensures taking { IsTaking stage.new }
     ensures searching { (above : _) → IsSearching above stage.new }
     ensures finding { IsFinding stage.new }
-    ensures bears { N.marked nodes.new ≡ N.marked nodes.old }
+    ensures goes { N.goes nodes.old no_mark nodes.new }
     ensures busy { OnBusy result (IsInTheWay (N.flushes nodes.old) (N.world nodes.old) walk.now.op) }
     ensures cause { CausedTurn result (N.faults nodes.old) (N.faults nodes.new) (N.halted nodes.old) (N.halted nodes.new) }
     ensures arrives { Arrives result walk.now (N.world nodes.old) Stage.Start stage.new reach.old reach.new }
@@ -95,17 +92,15 @@ pub(crate) fn descend<N: Nodes>(
     nodes: &mut N,
 ) -> Turn<()>
     requires at { stage.old ≡ Stage.Down page }
-    requires stands { Stands walk.now (Stage.Down page) (N.world nodes.old) }
     requires shown { N.shows nodes.old page }
-    ensures stepped { Stepped walk.now stage.new (N.world nodes.old) (N.world nodes.new) }
+    ensures turned { Turns (N.sound nodes.old) (N.sound nodes.new) walk.now (Stage.Down page) stage.new KeepsKeys (N.world nodes.old) (N.world nodes.new) }
     ensures rule { IsTurned result walk.now (N.world nodes.old) (N.world nodes.new) (N.left nodes.old) (N.left nodes.new) (Stage.Down page) stage.new }
-    ensures keys { KeepsKeys (N.world nodes.old) (N.world nodes.new) }
     ensures going { is_done result ≡ false }
     ensures putting { IsPutting stage.new }
     ensures taking { IsTaking stage.new }
     ensures searching { (above : _) → IsSearching above stage.new }
     ensures finding { IsFinding stage.new }
-    ensures bears { N.marked nodes.new ≡ N.marked nodes.old }
+    ensures goes { N.goes nodes.old no_mark nodes.new }
     ensures busy { OnBusy result (IsInTheWay (N.flushes nodes.old) (N.world nodes.old) walk.now.op) }
     ensures cause { CausedTurn result (N.faults nodes.old) (N.faults nodes.new) (N.halted nodes.old) (N.halted nodes.new) }
     ensures arrives { Arrives result walk.now (N.world nodes.old) (Stage.Down page) stage.new reach.old reach.new }
@@ -157,14 +152,12 @@ pub(crate) fn own_leaf<N: Nodes>(
     nodes: &mut N,
 ) -> Turn<()>
     requires at { stage.old ≡ Stage.Leaf page }
-    requires stands { Stands walk.now (Stage.Leaf page) (N.world nodes.old) }
-    ensures stepped { Stepped walk.now stage.new (N.world nodes.old) (N.world nodes.new) }
+    ensures turned { Turns (N.sound nodes.old) (N.sound nodes.new) walk.now (Stage.Leaf page) stage.new KeepsKeys (N.world nodes.old) (N.world nodes.new) }
     ensures rule { IsTurned result walk.now (N.world nodes.old) (N.world nodes.new) (N.left nodes.old) (N.left nodes.new) (Stage.Leaf page) stage.new }
-    ensures keys { KeepsKeys (N.world nodes.old) (N.world nodes.new) }
     ensures going { is_done result ≡ false }
     ensures putting { IsPutting stage.new }
     ensures taking { IsTaking stage.new }
-    ensures bears { N.marked nodes.new ≡ N.marked nodes.old }
+    ensures goes { N.goes nodes.old no_mark nodes.new }
     ensures busy { OnBusy result (IsInTheWay (N.flushes nodes.old) (N.world nodes.old) walk.now.op) }
     ensures cause { CausedTurn result (N.faults nodes.old) (N.faults nodes.new) (N.halted nodes.old) (N.halted nodes.new) }
 {
@@ -191,15 +184,13 @@ pub(crate) fn find_leaf<N: Nodes>(
     reach: &mut Reach,
     nodes: &mut N,
 ) -> Turn<()>
-    requires stands { Stands walk.now stage.old (N.world nodes.old) }
     requires finding { IsFinding stage.old }
     requires shown { IfSome (looked_at stage.old) (N.shows nodes.old) }
-    ensures stepped { Stepped walk.now stage.new (N.world nodes.old) (N.world nodes.new) }
+    ensures turned { Turns (N.sound nodes.old) (N.sound nodes.new) walk.now stage.old stage.new KeepsKeys (N.world nodes.old) (N.world nodes.new) }
     ensures rule { IsTurned result walk.now (N.world nodes.old) (N.world nodes.new) (N.left nodes.old) (N.left nodes.new) stage.old stage.new }
-    ensures keys { KeepsKeys (N.world nodes.old) (N.world nodes.new) }
     ensures going { is_done result ≡ false }
     ensures taking { IsTaking stage.new }
-    ensures bears { N.marked nodes.new ≡ N.marked nodes.old }
+    ensures goes { N.goes nodes.old no_mark nodes.new }
     ensures busy { OnBusy result (IsInTheWay (N.flushes nodes.old) (N.world nodes.old) walk.now.op) }
     ensures cause { CausedTurn result (N.faults nodes.old) (N.faults nodes.new) (N.halted nodes.old) (N.halted nodes.new) }
     ensures arrives { Arrives result walk.now (N.world nodes.old) stage.old stage.new reach.old reach.new }

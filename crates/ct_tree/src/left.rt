@@ -5,7 +5,8 @@ ghost use Rattle.std.specs.Prelude.{◌≡◌, IfSome, None, false};
 ghost use Rattle.ct_node.specs.declared.target.Target.TheVariants.{Before};
 ghost use Rattle.ct_node.specs.Places.{next_place};
 ghost use Rattle.ct_node.specs.Turns.{OnBusy, CausedTurn};
-ghost use Rattle.ct_tree_laws.specs.Stands.{Stands, Stepped, KeepsKeys};
+ghost use Rattle.ct_node.specs.Worlds.{no_mark, with_lost};
+ghost use Rattle.ct_tree_laws.specs.Stands.{Stands, KeepsKeys, InSound, Turns};
 ghost use Rattle.ct_tree.specs.Answers.{is_done, TellsFound, IsInTheWay, IsSearchingLeft, found_left, IsLeft};
 ghost use Rattle.ct_tree.specs.Rules.{IsTurned};
 ghost use Rattle.ct_tree.specs.Moves.{looked_at, looked_on};
@@ -30,15 +31,13 @@ pub(crate) fn left_step<N: Nodes>(
     found: &mut Option<Pair>,
 ) -> Turn<()>
     requires unfound { found.old ≡ None }
-    requires stands { Stands walk.now stage.old (N.world nodes.old) }
     requires open { IsSearchingLeft or_at stage.old }
     requires shown { IfSome (looked_at stage.old) (N.shows nodes.old) }
-    ensures stepped { Stepped walk.now stage.new (N.world nodes.old) (N.world nodes.new) }
+    ensures turned { Turns (N.sound nodes.old) (N.sound nodes.new) walk.now stage.old stage.new KeepsKeys (N.world nodes.old) (N.world nodes.new) }
     ensures rule { IsTurned result walk.now (N.world nodes.old) (N.world nodes.new) (N.left nodes.old) (N.left nodes.new) stage.old stage.new }
-    ensures keys { KeepsKeys (N.world nodes.old) (N.world nodes.new) }
-    ensures found { TellsFound walk.now (found_left or_at) result found.new (N.world nodes.old) }
+    ensures found { InSound (N.sound nodes.old) (Stands walk.now stage.old) (N.world nodes.old) (λ lost. TellsFound walk.now (found_left or_at) result found.new (with_lost lost (N.world nodes.old))) }
     ensures searching { IsSearchingLeft or_at stage.new }
-    ensures bears { N.marked nodes.new ≡ N.marked nodes.old }
+    ensures goes { N.goes nodes.old no_mark nodes.new }
     ensures busy { OnBusy result (IsInTheWay (N.flushes nodes.old) (N.world nodes.old) walk.now.op) }
     ensures cause { CausedTurn result (N.faults nodes.old) (N.faults nodes.new) (N.halted nodes.old) (N.halted nodes.new) }
     ensures follows { Follows result walk.now (N.world nodes.old) stage.old stage.new ways.old ways.new }
@@ -87,13 +86,11 @@ fn going(step: (Stage, Turn<()>)) -> (Stage, Turn<()>, Option<Pair>)
 /// Shares the leaf of the target.
 fn share_first<N: Nodes>(walk: &Walk, page: u64, stage: &mut Stage, nodes: &mut N) -> Turn<()>
     requires at { stage.old ≡ Stage.Leaf page }
-    requires stands { Stands walk.now (Stage.Leaf page) (N.world nodes.old) }
-    ensures stepped { Stepped walk.now stage.new (N.world nodes.old) (N.world nodes.new) }
+    ensures turned { Turns (N.sound nodes.old) (N.sound nodes.new) walk.now (Stage.Leaf page) stage.new KeepsKeys (N.world nodes.old) (N.world nodes.new) }
     ensures rule { IsTurned result walk.now (N.world nodes.old) (N.world nodes.new) (N.left nodes.old) (N.left nodes.new) (Stage.Leaf page) stage.new }
-    ensures keys { KeepsKeys (N.world nodes.old) (N.world nodes.new) }
     ensures going { is_done result ≡ false }
     ensures searching { (or_at : _) → IsSearchingLeft or_at stage.new }
-    ensures bears { N.marked nodes.new ≡ N.marked nodes.old }
+    ensures goes { N.goes nodes.old no_mark nodes.new }
     ensures busy { OnBusy result (IsInTheWay (N.flushes nodes.old) (N.world nodes.old) walk.now.op) }
     ensures cause { CausedTurn result (N.faults nodes.old) (N.faults nodes.new) (N.halted nodes.old) (N.halted nodes.new) }
 {
@@ -119,14 +116,12 @@ fn look_first<N: Nodes>(
 ) -> Turn<()>
     requires at { stage.old ≡ Stage.SharedLeft page }
     requires unfound { found.old ≡ None }
-    requires stands { Stands walk.now (Stage.SharedLeft page) (N.world nodes.old) }
     requires shown { N.shows nodes.old page }
-    ensures stepped { Stepped walk.now stage.new (N.world nodes.old) (N.world nodes.new) }
+    ensures turned { Turns (N.sound nodes.old) (N.sound nodes.new) walk.now (Stage.SharedLeft page) stage.new KeepsKeys (N.world nodes.old) (N.world nodes.new) }
     ensures rule { IsTurned result walk.now (N.world nodes.old) (N.world nodes.new) (N.left nodes.old) (N.left nodes.new) (Stage.SharedLeft page) stage.new }
-    ensures keys { KeepsKeys (N.world nodes.old) (N.world nodes.new) }
-    ensures found { TellsFound walk.now (found_left or_at) result found.new (N.world nodes.old) }
+    ensures found { InSound (N.sound nodes.old) (Stands walk.now (Stage.SharedLeft page)) (N.world nodes.old) (λ lost. TellsFound walk.now (found_left or_at) result found.new (with_lost lost (N.world nodes.old))) }
     ensures searching { IsSearchingLeft or_at stage.new }
-    ensures bears { N.marked nodes.new ≡ N.marked nodes.old }
+    ensures goes { N.goes nodes.old no_mark nodes.new }
     ensures busy { OnBusy result (IsInTheWay (N.flushes nodes.old) (N.world nodes.old) walk.now.op) }
     ensures cause { CausedTurn result (N.faults nodes.old) (N.faults nodes.new) (N.halted nodes.old) (N.halted nodes.new) }
     ensures arrives { Arrives result walk.now (N.world nodes.old) (Stage.SharedLeft page) stage.new reach.old reach.new }
@@ -169,14 +164,12 @@ fn step_left<N: Nodes>(
     found: &mut Option<Pair>,
 ) -> Turn<()>
     requires at { IsLeft or_at stage.old }
-    requires stands { Stands walk.now stage.old (N.world nodes.old) }
     requires shown { IfSome (looked_at stage.old) (N.shows nodes.old) }
-    ensures stepped { Stepped walk.now stage.new (N.world nodes.old) (N.world nodes.new) }
+    ensures turned { Turns (N.sound nodes.old) (N.sound nodes.new) walk.now stage.old stage.new KeepsKeys (N.world nodes.old) (N.world nodes.new) }
     ensures rule { IsTurned result walk.now (N.world nodes.old) (N.world nodes.new) (N.left nodes.old) (N.left nodes.new) stage.old stage.new }
-    ensures keys { KeepsKeys (N.world nodes.old) (N.world nodes.new) }
-    ensures found { TellsFound walk.now (found_left or_at) result found.new (N.world nodes.old) }
+    ensures found { InSound (N.sound nodes.old) (Stands walk.now stage.old) (N.world nodes.old) (λ lost. TellsFound walk.now (found_left or_at) result found.new (with_lost lost (N.world nodes.old))) }
     ensures searching { IsSearchingLeft or_at stage.new }
-    ensures bears { N.marked nodes.new ≡ N.marked nodes.old }
+    ensures goes { N.goes nodes.old no_mark nodes.new }
     ensures busy { OnBusy result (IsInTheWay (N.flushes nodes.old) (N.world nodes.old) walk.now.op) }
     ensures cause { CausedTurn result (N.faults nodes.old) (N.faults nodes.new) (N.halted nodes.old) (N.halted nodes.new) }
     ensures follows { Follows result walk.now (N.world nodes.old) stage.old stage.new ways.old ways.new }
@@ -202,14 +195,12 @@ fn go_left<N: Nodes>(
     low: Pair,
     way: Way,
 ) -> (Stage, Turn<()>, Option<Pair>)
-    requires stands { Stands walk.now (Stage.Left low or_at way) (N.world nodes.old) }
     requires shown { IfSome (looked_on way) (N.shows nodes.old) }
-    ensures stepped { Stepped walk.now result.0 (N.world nodes.old) (N.world nodes.new) }
+    ensures turned { Turns (N.sound nodes.old) (N.sound nodes.new) walk.now (Stage.Left low or_at way) result.0 KeepsKeys (N.world nodes.old) (N.world nodes.new) }
     ensures rule { IsTurned result.1 walk.now (N.world nodes.old) (N.world nodes.new) (N.left nodes.old) (N.left nodes.new) (Stage.Left low or_at way) result.0 }
-    ensures keys { KeepsKeys (N.world nodes.old) (N.world nodes.new) }
-    ensures found { TellsFound walk.now (found_left or_at) result.1 result.2 (N.world nodes.old) }
+    ensures found { InSound (N.sound nodes.old) (Stands walk.now (Stage.Left low or_at way)) (N.world nodes.old) (λ lost. TellsFound walk.now (found_left or_at) result.1 result.2 (with_lost lost (N.world nodes.old))) }
     ensures searching { IsSearchingLeft or_at result.0 }
-    ensures bears { N.marked nodes.new ≡ N.marked nodes.old }
+    ensures goes { N.goes nodes.old no_mark nodes.new }
     ensures busy { OnBusy result.1 (IsInTheWay (N.flushes nodes.old) (N.world nodes.old) walk.now.op) }
     ensures cause { CausedTurn result.1 (N.faults nodes.old) (N.faults nodes.new) (N.halted nodes.old) (N.halted nodes.new) }
 {
@@ -223,13 +214,11 @@ fn go_left<N: Nodes>(
 
 /// Reads the root.
 fn start_left<N: Nodes>(walk: &Walk, or_at: bool, nodes: &mut N, low: Pair) -> (Stage, Turn<()>)
-    requires { Stands walk.now (Stage.Left low or_at Way.Start) (N.world nodes.old) }
-    ensures stepped { Stepped walk.now result.0 (N.world nodes.old) (N.world nodes.new) }
+    ensures turned { Turns (N.sound nodes.old) (N.sound nodes.new) walk.now (Stage.Left low or_at Way.Start) result.0 KeepsKeys (N.world nodes.old) (N.world nodes.new) }
     ensures rule { IsTurned result.1 walk.now (N.world nodes.old) (N.world nodes.new) (N.left nodes.old) (N.left nodes.new) (Stage.Left low or_at Way.Start) result.0 }
-    ensures keys { KeepsKeys (N.world nodes.old) (N.world nodes.new) }
     ensures going { is_done result.1 ≡ false }
     ensures searching { IsSearchingLeft or_at result.0 }
-    ensures bears { N.marked nodes.new ≡ N.marked nodes.old }
+    ensures goes { N.goes nodes.old no_mark nodes.new }
     ensures busy { OnBusy result.1 (IsInTheWay (N.flushes nodes.old) (N.world nodes.old) walk.now.op) }
     ensures cause { CausedTurn result.1 (N.faults nodes.old) (N.faults nodes.new) (N.halted nodes.old) (N.halted nodes.new) }
 {
@@ -268,14 +257,12 @@ fn descend_left<N: Nodes>(
     low: Pair,
     page: u64,
 ) -> (Stage, Turn<()>)
-    requires stands { Stands walk.now (Stage.Left low or_at (Way.Down page)) (N.world nodes.old) }
     requires shown { N.shows nodes.old page }
-    ensures stepped { Stepped walk.now result.0 (N.world nodes.old) (N.world nodes.new) }
+    ensures turned { Turns (N.sound nodes.old) (N.sound nodes.new) walk.now (Stage.Left low or_at (Way.Down page)) result.0 KeepsKeys (N.world nodes.old) (N.world nodes.new) }
     ensures rule { IsTurned result.1 walk.now (N.world nodes.old) (N.world nodes.new) (N.left nodes.old) (N.left nodes.new) (Stage.Left low or_at (Way.Down page)) result.0 }
-    ensures keys { KeepsKeys (N.world nodes.old) (N.world nodes.new) }
     ensures going { is_done result.1 ≡ false }
     ensures searching { IsSearchingLeft or_at result.0 }
-    ensures bears { N.marked nodes.new ≡ N.marked nodes.old }
+    ensures goes { N.goes nodes.old no_mark nodes.new }
     ensures busy { OnBusy result.1 (IsInTheWay (N.flushes nodes.old) (N.world nodes.old) walk.now.op) }
     ensures cause { CausedTurn result.1 (N.faults nodes.old) (N.faults nodes.new) (N.halted nodes.old) (N.halted nodes.new) }
 {
@@ -324,13 +311,11 @@ fn share_left<N: Nodes>(
     low: Pair,
     page: u64,
 ) -> (Stage, Turn<()>)
-    requires { Stands walk.now (Stage.Left low or_at (Way.Leaf page)) (N.world nodes.old) }
-    ensures stepped { Stepped walk.now result.0 (N.world nodes.old) (N.world nodes.new) }
+    ensures turned { Turns (N.sound nodes.old) (N.sound nodes.new) walk.now (Stage.Left low or_at (Way.Leaf page)) result.0 KeepsKeys (N.world nodes.old) (N.world nodes.new) }
     ensures rule { IsTurned result.1 walk.now (N.world nodes.old) (N.world nodes.new) (N.left nodes.old) (N.left nodes.new) (Stage.Left low or_at (Way.Leaf page)) result.0 }
-    ensures keys { KeepsKeys (N.world nodes.old) (N.world nodes.new) }
     ensures going { is_done result.1 ≡ false }
     ensures searching { IsSearchingLeft or_at result.0 }
-    ensures bears { N.marked nodes.new ≡ N.marked nodes.old }
+    ensures goes { N.goes nodes.old no_mark nodes.new }
     ensures busy { OnBusy result.1 (IsInTheWay (N.flushes nodes.old) (N.world nodes.old) walk.now.op) }
     ensures cause { CausedTurn result.1 (N.faults nodes.old) (N.faults nodes.new) (N.halted nodes.old) (N.halted nodes.new) }
 {
@@ -353,14 +338,12 @@ fn look_left<N: Nodes>(
     low: Pair,
     page: u64,
 ) -> (Stage, Turn<()>, Option<Pair>)
-    requires stands { Stands walk.now (Stage.Left low or_at (Way.Shared page)) (N.world nodes.old) }
     requires shown { N.shows nodes.old page }
-    ensures stepped { Stepped walk.now result.0 (N.world nodes.old) (N.world nodes.new) }
+    ensures turned { Turns (N.sound nodes.old) (N.sound nodes.new) walk.now (Stage.Left low or_at (Way.Shared page)) result.0 KeepsKeys (N.world nodes.old) (N.world nodes.new) }
     ensures rule { IsTurned result.1 walk.now (N.world nodes.old) (N.world nodes.new) (N.left nodes.old) (N.left nodes.new) (Stage.Left low or_at (Way.Shared page)) result.0 }
-    ensures keys { KeepsKeys (N.world nodes.old) (N.world nodes.new) }
-    ensures found { TellsFound walk.now (found_left or_at) result.1 result.2 (N.world nodes.old) }
+    ensures found { InSound (N.sound nodes.old) (Stands walk.now (Stage.Left low or_at (Way.Shared page))) (N.world nodes.old) (λ lost. TellsFound walk.now (found_left or_at) result.1 result.2 (with_lost lost (N.world nodes.old))) }
     ensures searching { IsSearchingLeft or_at result.0 }
-    ensures bears { N.marked nodes.new ≡ N.marked nodes.old }
+    ensures goes { N.goes nodes.old no_mark nodes.new }
     ensures busy { OnBusy result.1 (IsInTheWay (N.flushes nodes.old) (N.world nodes.old) walk.now.op) }
     ensures cause { CausedTurn result.1 (N.faults nodes.old) (N.faults nodes.new) (N.halted nodes.old) (N.halted nodes.new) }
 {

@@ -33,7 +33,7 @@ mod tests;
 
 pub use begin::begins_in_memory;
 pub use ct_tree_laws::{Rise, Separator, Stage, Walk, Way};
-pub use laws::{half_split_is_not_reached, levels_are_even};
+pub use laws::{a_stop_leaves_trees, half_split_is_not_reached, levels_are_even, moves_keep_trees};
 pub use memory::run_in_memory;
 pub use moves::{Spot, turns_come_to_an_end, walks_go_in_no_circle};
 pub use program::{Answer, Happened, Program, turn};

@@ -1,7 +1,7 @@
 //! Where an operation is between two turns, and how many moves to another page its walk has made. A
 //! walk that has made as many moves as there are pages goes in a circle.
 
-ghost use Rattle.std.specs.Prelude.{◌≡◌, ◌<◌, ℕ, List, IfSome, IsTrue};
+ghost use Rattle.std.specs.Prelude.{◌≡◌, ◌<◌, ℕ, List, IfSome};
 ghost use Rattle.ct_tree_laws.specs.Trees.{IsApart};
 ghost use Rattle.ct_tree_laws.specs.Stands.{Stands, Stepped};
 ghost use Rattle.ct_tree.specs.Counted.{IsCounted};
@@ -31,11 +31,11 @@ pub fn turns_come_to_an_end()
     ensures ends { (n : ℕ) (chain : ℕ → List ℕ) → IsDescent n chain → ⊥ }
 {}
 
-/// Where operations alone made the pages, a walk comes to no page twice: each move that is counted
+/// In a sound store a walk comes to no page twice: each move that is counted
 /// is to a lower level, or further right on the same one. So it has made fewer moves than there are
 /// pages.
 pub fn walks_go_in_no_circle()
-    ensures moves { (w : World) (at : Stage) (moves : ℕ) → IsTrue w.founded → IsApart w → IsCounted at moves w → MayMove at moves w }
+    ensures moves { (w : World) (at : Stage) (moves : ℕ) → IsApart w → IsCounted at moves w → MayMove at moves w }
     ensures counted { (walk : Walk) (w now : World) (before after : ℕ) (from to : Stage) (moves : ℕ) → Stands walk from w → Stepped walk to w now → IsOneTurn walk w now before after from to → IsCounted from moves w → IsCounted to (moves_after (spot_of from) (spot_of to) moves) now }
 {}
 

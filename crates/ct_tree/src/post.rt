@@ -1,14 +1,14 @@
 //! Posting the separator of a split to the level above: the node there found, made the operation's
 //! own, split where it is full, and written.
 
-ghost use Rattle.std.specs.Prelude.{ℕ, ◌≡◌, ◌⊎◌, ◌==◌, ◌&&◌, not, length, IsTrue, IfSome, false, true};
+ghost use Rattle.std.specs.Prelude.{ℕ, ◌≡◌, ◌⊎◌, ◌==◌, ◌&&◌, not, length, IfSome, false, true};
 ghost use Rattle.ct_node.specs.declared.target.Target.TheVariants.{At};
 ghost use Rattle.ct_node.specs.Nodes.{is_within};
 ghost use Rattle.ct_node.specs.Places.{next_place};
 ghost use Rattle.ct_node.specs.Worlds.{World, Holds, page_at, no_mark};
 ghost use Rattle.ct_node.specs.Turns.{OnBusy, CausedTurn};
 ghost use Rattle.ct_tree_laws.specs.declared.walk.Walk.{Walk};
-ghost use Rattle.ct_tree_laws.specs.Stands.{Stands, Stepped, KeepsKeys, after_post};
+ghost use Rattle.ct_tree_laws.specs.Stands.{Stands, KeepsKeys, after_post, Turns};
 ghost use Rattle.ct_tree.specs.Answers.{is_done, is_above_for, IsInTheWay, IsPutting, IsPosting};
 ghost use Rattle.ct_tree.specs.Rules.{IsTurned, GoesToward, leaves_room};
 ghost use Rattle.ct_tree.specs.Moves.{looked_at, looked_in};
@@ -34,14 +34,12 @@ pub(crate) fn step_up<N: Nodes>(
     node: &mut Node,
 ) -> Turn<()>
     requires at { IsPosting stage.old }
-    requires stands { Stands walk.now stage.old (N.world nodes.old) }
     requires shown { IfSome (looked_at stage.old) (N.shows nodes.old) }
-    ensures stepped { Stepped walk.now stage.new (N.world nodes.old) (N.world nodes.new) }
+    ensures turned { Turns (N.sound nodes.old) (N.sound nodes.new) walk.now stage.old stage.new KeepsKeys (N.world nodes.old) (N.world nodes.new) }
     ensures rule { IsTurned result walk.now (N.world nodes.old) (N.world nodes.new) (N.left nodes.old) (N.left nodes.new) stage.old stage.new }
-    ensures keys { KeepsKeys (N.world nodes.old) (N.world nodes.new) }
     ensures going { is_done result ≡ false }
     ensures putting { IsPutting stage.new }
-    ensures bears { (N.marked nodes.new ≡ N.marked nodes.old) ⊎ (N.marked nodes.new ≡ no_mark) }
+    ensures goes { N.goes nodes.old no_mark nodes.new }
     ensures busy { OnBusy result (IsInTheWay (N.flushes nodes.old) (N.world nodes.old) walk.now.op) }
     ensures cause { CausedTurn result (N.faults nodes.old) (N.faults nodes.new) (N.halted nodes.old) (N.halted nodes.new) }
     ensures follows { Follows result walk.now (N.world nodes.old) stage.old stage.new ways.old ways.new }
@@ -66,14 +64,12 @@ fn post<N: Nodes>(
     rise: Rise,
     node: &mut Node,
 ) -> (Stage, Turn<()>)
-    requires stands { Stands walk.now (Stage.Post separator rise) (N.world nodes.old) }
     requires shown { IfSome (looked_in separator rise) (N.shows nodes.old) }
-    ensures stepped { Stepped walk.now result.0 (N.world nodes.old) (N.world nodes.new) }
+    ensures turned { Turns (N.sound nodes.old) (N.sound nodes.new) walk.now (Stage.Post separator rise) result.0 KeepsKeys (N.world nodes.old) (N.world nodes.new) }
     ensures rule { IsTurned result.1 walk.now (N.world nodes.old) (N.world nodes.new) (N.left nodes.old) (N.left nodes.new) (Stage.Post separator rise) result.0 }
-    ensures keys { KeepsKeys (N.world nodes.old) (N.world nodes.new) }
     ensures going { is_done result.1 ≡ false }
     ensures putting { IsPutting result.0 }
-    ensures bears { (N.marked nodes.new ≡ N.marked nodes.old) ⊎ (N.marked nodes.new ≡ no_mark) }
+    ensures goes { N.goes nodes.old no_mark nodes.new }
     ensures busy { OnBusy result.1 (IsInTheWay (N.flushes nodes.old) (N.world nodes.old) walk.now.op) }
     ensures cause { CausedTurn result.1 (N.faults nodes.old) (N.faults nodes.new) (N.halted nodes.old) (N.halted nodes.new) }
 {
@@ -104,13 +100,11 @@ pub(crate) fn read_root<N: Nodes>(
     nodes: &mut N,
     separator: Separator,
 ) -> (Stage, Turn<()>)
-    requires { Stands walk.now (Stage.Post separator Rise.Root) (N.world nodes.old) }
-    ensures stepped { Stepped walk.now result.0 (N.world nodes.old) (N.world nodes.new) }
+    ensures turned { Turns (N.sound nodes.old) (N.sound nodes.new) walk.now (Stage.Post separator Rise.Root) result.0 KeepsKeys (N.world nodes.old) (N.world nodes.new) }
     ensures rule { IsTurned result.1 walk.now (N.world nodes.old) (N.world nodes.new) (N.left nodes.old) (N.left nodes.new) (Stage.Post separator Rise.Root) result.0 }
-    ensures keys { KeepsKeys (N.world nodes.old) (N.world nodes.new) }
     ensures going { is_done result.1 ≡ false }
     ensures putting { IsPutting result.0 }
-    ensures bears { N.marked nodes.new ≡ N.marked nodes.old }
+    ensures goes { N.goes nodes.old no_mark nodes.new }
     ensures busy { OnBusy result.1 (IsInTheWay (N.flushes nodes.old) (N.world nodes.old) walk.now.op) }
     ensures cause { CausedTurn result.1 (N.faults nodes.old) (N.faults nodes.new) (N.halted nodes.old) (N.halted nodes.new) }
 {
@@ -148,14 +142,12 @@ pub(crate) fn find_above<N: Nodes>(
     page: u64,
     above: Option<u64>,
 ) -> (Stage, Turn<()>)
-    requires stands { Stands walk.now (Stage.Post separator (Rise.Down page above)) (N.world nodes.old) }
     requires shown { N.shows nodes.old page }
-    ensures stepped { Stepped walk.now result.0 (N.world nodes.old) (N.world nodes.new) }
+    ensures turned { Turns (N.sound nodes.old) (N.sound nodes.new) walk.now (Stage.Post separator (Rise.Down page above)) result.0 KeepsKeys (N.world nodes.old) (N.world nodes.new) }
     ensures rule { IsTurned result.1 walk.now (N.world nodes.old) (N.world nodes.new) (N.left nodes.old) (N.left nodes.new) (Stage.Post separator (Rise.Down page above)) result.0 }
-    ensures keys { KeepsKeys (N.world nodes.old) (N.world nodes.new) }
     ensures going { is_done result.1 ≡ false }
     ensures putting { IsPutting result.0 }
-    ensures bears { N.marked nodes.new ≡ N.marked nodes.old }
+    ensures goes { N.goes nodes.old no_mark nodes.new }
     ensures busy { OnBusy result.1 (IsInTheWay (N.flushes nodes.old) (N.world nodes.old) walk.now.op) }
     ensures cause { CausedTurn result.1 (N.faults nodes.old) (N.faults nodes.new) (N.halted nodes.old) (N.halted nodes.new) }
 {
@@ -227,13 +219,11 @@ pub(crate) fn own_above<N: Nodes>(
     separator: Separator,
     page: u64,
 ) -> (Stage, Turn<()>)
-    requires { Stands walk.now (Stage.Post separator (Rise.Above page)) (N.world nodes.old) }
-    ensures stepped { Stepped walk.now result.0 (N.world nodes.old) (N.world nodes.new) }
+    ensures turned { Turns (N.sound nodes.old) (N.sound nodes.new) walk.now (Stage.Post separator (Rise.Above page)) result.0 KeepsKeys (N.world nodes.old) (N.world nodes.new) }
     ensures rule { IsTurned result.1 walk.now (N.world nodes.old) (N.world nodes.new) (N.left nodes.old) (N.left nodes.new) (Stage.Post separator (Rise.Above page)) result.0 }
-    ensures keys { KeepsKeys (N.world nodes.old) (N.world nodes.new) }
     ensures going { is_done result.1 ≡ false }
     ensures putting { IsPutting result.0 }
-    ensures bears { N.marked nodes.new ≡ N.marked nodes.old }
+    ensures goes { N.goes nodes.old no_mark nodes.new }
     ensures busy { OnBusy result.1 (IsInTheWay (N.flushes nodes.old) (N.world nodes.old) walk.now.op) }
     ensures cause { CausedTurn result.1 (N.faults nodes.old) (N.faults nodes.new) (N.halted nodes.old) (N.halted nodes.new) }
 {
@@ -263,14 +253,12 @@ pub(crate) fn post_held<N: Nodes>(
     next: Option<Separator>,
     node: &mut Node,
 ) -> (Stage, Turn<()>)
-    requires stands { Stands walk.now (Stage.Post separator (Rise.Held page next)) (N.world nodes.old) }
     requires shown { N.shows nodes.old page }
-    ensures stepped { Stepped walk.now result.0 (N.world nodes.old) (N.world nodes.new) }
+    ensures turned { Turns (N.sound nodes.old) (N.sound nodes.new) walk.now (Stage.Post separator (Rise.Held page next)) result.0 KeepsKeys (N.world nodes.old) (N.world nodes.new) }
     ensures rule { IsTurned result.1 walk.now (N.world nodes.old) (N.world nodes.new) (N.left nodes.old) (N.left nodes.new) (Stage.Post separator (Rise.Held page next)) result.0 }
-    ensures keys { KeepsKeys (N.world nodes.old) (N.world nodes.new) }
     ensures going { is_done result.1 ≡ false }
     ensures putting { IsPutting result.0 }
-    ensures bears { (N.marked nodes.new ≡ N.marked nodes.old) ⊎ (N.marked nodes.new ≡ no_mark) }
+    ensures goes { N.goes nodes.old no_mark nodes.new }
     ensures busy { OnBusy result.1 (IsInTheWay (N.flushes nodes.old) (N.world nodes.old) walk.now.op) }
     ensures cause { CausedTurn result.1 (N.faults nodes.old) (N.faults nodes.new) (N.halted nodes.old) (N.halted nodes.new) }
 {
@@ -297,15 +285,13 @@ fn post_within<N: Nodes>(
     next: Option<Separator>,
     node: &mut Node,
 ) -> (Stage, Turn<()>)
-    requires stands { Stands walk.now (Stage.Post separator (Rise.Held page next)) (N.world nodes.old) }
     requires seen { page_at (N.world nodes.old) page ≡ Holds node.old }
     requires within { is_within node.old.low node.old.high separator.low ≡ true }
-    ensures stepped { Stepped walk.now result.0 (N.world nodes.old) (N.world nodes.new) }
+    ensures turned { Turns (N.sound nodes.old) (N.sound nodes.new) walk.now (Stage.Post separator (Rise.Held page next)) result.0 KeepsKeys (N.world nodes.old) (N.world nodes.new) }
     ensures rule { IsTurned result.1 walk.now (N.world nodes.old) (N.world nodes.new) (N.left nodes.old) (N.left nodes.new) (Stage.Post separator (Rise.Held page next)) result.0 }
-    ensures keys { KeepsKeys (N.world nodes.old) (N.world nodes.new) }
     ensures going { is_done result.1 ≡ false }
     ensures putting { IsPutting result.0 }
-    ensures bears { (N.marked nodes.new ≡ N.marked nodes.old) ⊎ (N.marked nodes.new ≡ no_mark) }
+    ensures goes { N.goes nodes.old no_mark nodes.new }
     ensures busy { OnBusy result.1 (IsInTheWay (N.flushes nodes.old) (N.world nodes.old) walk.now.op) }
     ensures cause { CausedTurn result.1 (N.faults nodes.old) (N.faults nodes.new) (N.halted nodes.old) (N.halted nodes.new) }
 {

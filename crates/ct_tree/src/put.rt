@@ -1,14 +1,15 @@
 //! Putting a pair: the leaf found, made the operation's own, split where it is full, and written.
 
-ghost use Rattle.std.specs.Prelude.{◌≡◌, ◌≤◌, ◌==◌, ◌&&◌, IsTrue, IfSome, false, true, length};
+ghost use Rattle.std.specs.Prelude.{◌≡◌, ◌≤◌, ◌==◌, ◌&&◌, IfSome, false, true, length};
 ghost use Rattle.ct_node.specs.Places.{is_past};
-ghost use Rattle.ct_node.specs.Worlds.{Holds, page_at};
+ghost use Rattle.ct_node.specs.Worlds.{Holds, page_at, with_lost, Adds};
 ghost use Rattle.ct_node.specs.Turns.{OnDone, OnBusy, CausedTurn, OnMore};
-ghost use Rattle.ct_tree_laws.specs.Stands.{Stands, Stepped, HasNone};
-ghost use Rattle.ct_tree.specs.Answers.{IsPair, PutsKeys, IsInTheWay, IsPutting, GoesOn, BearsPut};
+ghost use Rattle.ct_tree_laws.specs.Stands.{Stands, HasNone, InSound, Turned, Turns};
+ghost use Rattle.ct_tree.specs.Answers.{IsPair, PutsKeys, IsInTheWay, IsPutting, GoesOn, BearsPut, GoesBy, MayBear};
 ghost use Rattle.ct_tree.specs.Rules.{IsTurned};
 ghost use Rattle.ct_tree.specs.Moves.{looked_at, spot_of, moves_after};
 ghost use Rattle.ct_tree.specs.Counted.{IsCounted};
+ghost use Rattle.ct_tree.specs.Remembered.{Remembers, IsComing};
 ghost use Rattle.ct_tree.specs.Roles.{HasRole, HasCome, Comes, StaysOutside, Follows, Arrives};
 ghost use Rattle.ct_tree.specs.Ends.{left_of, IsLess};
 
@@ -60,26 +61,23 @@ impl Put {
     /// One turn. The turn that answers `Done` has put the pair and given back what the put took; no
     /// other turn changes the pairs of any index.
     pub fn turn<N: Nodes>(&mut self, nodes: &mut N) -> Turn<()>
-        requires stands { Stands self.old.walk self.old.stage (N.world nodes.old) }
         requires pair { IsPair self.old.walk.target }
         requires open { IsPutting self.old.stage }
-        requires mark { N.allows nodes.old self.old.walk.op self.old.mark }
-        requires counted { IsCounted self.old.stage self.old.moves (N.world nodes.old) }
-        requires come { HasCome self.old.stage self.old.ways (N.world nodes.old) }
+        requires mark { MayBear (N.allows nodes.old self.old.walk.op) self.old.mark self.old.walk.target (Adds self.old.walk.at) }
         ensures walk { self.new.walk ≡ self.old.walk }
         ensures mark { self.new.mark ≡ self.old.mark }
-        ensures stepped { Stepped self.old.walk self.new.stage (N.world nodes.old) (N.world nodes.new) }
+        ensures turned { InSound (N.sound nodes.old) (Remembers self.old.walk self.old.stage self.old.moves self.old.ways) (N.world nodes.old) (Turned (N.sound nodes.new) self.old.walk self.new.stage (PutsKeys self.old.walk result) (N.world nodes.old) (N.world nodes.new)) }
         ensures rule { IsTurned result self.old.walk (N.world nodes.old) (N.world nodes.new) (N.left nodes.old) (N.left nodes.new) self.old.stage self.new.stage }
-        ensures counted { IsCounted self.new.stage self.new.moves (N.world nodes.new) }
+        ensures counted { InSound (N.sound nodes.old) (Remembers self.old.walk self.old.stage self.old.moves self.old.ways) (N.world nodes.old) (λ lost. IsCounted self.new.stage self.new.moves (with_lost lost (N.world nodes.new))) }
         ensures moves { self.new.moves ≡ moves_after (spot_of self.old.stage) (spot_of self.new.stage) self.old.moves }
         ensures role { StaysOutside result self.old.stage self.new.stage self.old.ways.at (N.world nodes.old) }
-        ensures come { HasCome self.new.stage self.new.ways (N.world nodes.new) }
+        ensures come { InSound (N.sound nodes.old) (Remembers self.old.walk self.old.stage self.old.moves self.old.ways) (N.world nodes.old) (λ lost. HasCome self.new.stage self.new.ways (with_lost lost (N.world nodes.new))) }
         ensures comes { OnMore result (Comes self.old.walk (N.world nodes.old) self.old.stage self.new.stage self.old.ways self.new.ways) }
         ensures left { OnMore result (IsLess (left_of self.new.stage self.new.moves (N.world nodes.new) (N.left nodes.new)) (left_of self.old.stage self.old.moves (N.world nodes.old) (N.left nodes.old))) }
-        ensures keys { PutsKeys self.old.walk result (N.world nodes.old) (N.world nodes.new) }
         ensures goes { GoesOn result self.new.stage }
-        ensures given_back { OnDone result (λ _. IsTrue (N.world nodes.old).founded → HasNone self.old.walk.op (N.world nodes.new)) }
-        ensures bears { BearsPut self.old.walk self.old.mark result (N.world nodes.old) (N.marked nodes.old) (N.marked nodes.new) }
+        ensures given_back { InSound (N.sound nodes.old) (Remembers self.old.walk self.old.stage self.old.moves self.old.ways) (N.world nodes.old) (λ lost. OnDone result (λ _. HasNone self.old.walk.op (N.world nodes.new))) }
+        ensures moves_on { GoesBy result self.old.mark (λ m. N.goes nodes.old m nodes.new) }
+        ensures bears { InSound (N.sound nodes.old) (Remembers self.old.walk self.old.stage self.old.moves self.old.ways) (N.world nodes.old) (λ lost. BearsPut self.old.walk self.old.mark result (with_lost lost (N.world nodes.old)) (λ m. N.goes nodes.old m nodes.new)) }
         ensures busy { OnBusy result (IsInTheWay (N.flushes nodes.old) (N.world nodes.old) self.old.walk.op) }
         ensures cause { CausedTurn result (N.faults nodes.old) (N.faults nodes.new) (N.halted nodes.old) (N.halted nodes.new) }
     {
@@ -112,17 +110,15 @@ fn put_step<N: Nodes>(
     nodes: &mut N,
     node: &mut Node,
 ) -> Turn<()>
-    requires stands { Stands walk.now stage.old (N.world nodes.old) }
     requires pair { IsPair walk.now.target }
     requires open { IsPutting stage.old }
-    requires role { IsTrue (N.world nodes.old).founded → HasRole (looked_at stage.old) ways.old.at (N.world nodes.old) }
-    requires mark { N.allows nodes.old walk.now.op mark }
-    ensures stepped { Stepped walk.now stage.new (N.world nodes.old) (N.world nodes.new) }
+    requires mark { MayBear (N.allows nodes.old walk.now.op) mark walk.now.target (Adds walk.now.at) }
+    ensures turned { InSound (N.sound nodes.old) (IsComing walk.now stage.old ways.old.at) (N.world nodes.old) (Turned (N.sound nodes.new) walk.now stage.new (PutsKeys walk.now result) (N.world nodes.old) (N.world nodes.new)) }
     ensures rule { IsTurned result walk.now (N.world nodes.old) (N.world nodes.new) (N.left nodes.old) (N.left nodes.new) stage.old stage.new }
     ensures role { StaysOutside result stage.old stage.new ways.old.at (N.world nodes.old) }
-    ensures keys { PutsKeys walk.now result (N.world nodes.old) (N.world nodes.new) }
     ensures goes { GoesOn result stage.new }
-    ensures bears { BearsPut walk.now mark result (N.world nodes.old) (N.marked nodes.old) (N.marked nodes.new) }
+    ensures moves_on { GoesBy result mark (λ m. N.goes nodes.old m nodes.new) }
+    ensures bears { InSound (N.sound nodes.old) (IsComing walk.now stage.old ways.old.at) (N.world nodes.old) (λ lost. BearsPut walk.now mark result (with_lost lost (N.world nodes.old)) (λ m. N.goes nodes.old m nodes.new)) }
     ensures busy { OnBusy result (IsInTheWay (N.flushes nodes.old) (N.world nodes.old) walk.now.op) }
     ensures cause { CausedTurn result (N.faults nodes.old) (N.faults nodes.new) (N.halted nodes.old) (N.halted nodes.new) }
     ensures follows { Follows result walk.now (N.world nodes.old) stage.old stage.new ways.old ways.new }
@@ -144,16 +140,15 @@ fn put_seen<N: Nodes>(
     nodes: &mut N,
     node: &mut Node,
 ) -> Turn<()>
-    requires stands { Stands walk.now stage.old (N.world nodes.old) }
     requires pair { IsPair walk.now.target }
     requires open { IsPutting stage.old }
-    requires mark { N.allows nodes.old walk.now.op mark }
+    requires mark { MayBear (N.allows nodes.old walk.now.op) mark walk.now.target (Adds walk.now.at) }
     requires shown { IfSome (looked_at stage.old) (N.shows nodes.old) }
-    ensures stepped { Stepped walk.now stage.new (N.world nodes.old) (N.world nodes.new) }
+    ensures turned { Turns (N.sound nodes.old) (N.sound nodes.new) walk.now stage.old stage.new (PutsKeys walk.now result) (N.world nodes.old) (N.world nodes.new) }
     ensures rule { IsTurned result walk.now (N.world nodes.old) (N.world nodes.new) (N.left nodes.old) (N.left nodes.new) stage.old stage.new }
-    ensures keys { PutsKeys walk.now result (N.world nodes.old) (N.world nodes.new) }
     ensures goes { GoesOn result stage.new }
-    ensures bears { BearsPut walk.now mark result (N.world nodes.old) (N.marked nodes.old) (N.marked nodes.new) }
+    ensures moves_on { GoesBy result mark (λ m. N.goes nodes.old m nodes.new) }
+    ensures bears { InSound (N.sound nodes.old) (Stands walk.now stage.old) (N.world nodes.old) (λ lost. BearsPut walk.now mark result (with_lost lost (N.world nodes.old)) (λ m. N.goes nodes.old m nodes.new)) }
     ensures busy { OnBusy result (IsInTheWay (N.flushes nodes.old) (N.world nodes.old) walk.now.op) }
     ensures cause { CausedTurn result (N.faults nodes.old) (N.faults nodes.new) (N.halted nodes.old) (N.halted nodes.new) }
     ensures follows { Follows result walk.now (N.world nodes.old) stage.old stage.new ways.old ways.new }
@@ -195,15 +190,14 @@ pub(crate) fn put_held<N: Nodes>(
     node: &mut Node,
 ) -> Turn<()>
     requires at { stage.old ≡ Stage.Held page }
-    requires stands { Stands walk.now (Stage.Held page) (N.world nodes.old) }
     requires pair { IsPair walk.now.target }
-    requires mark { N.allows nodes.old walk.now.op mark }
+    requires mark { MayBear (N.allows nodes.old walk.now.op) mark walk.now.target (Adds walk.now.at) }
     requires shown { N.shows nodes.old page }
-    ensures stepped { Stepped walk.now stage.new (N.world nodes.old) (N.world nodes.new) }
+    ensures turned { Turns (N.sound nodes.old) (N.sound nodes.new) walk.now (Stage.Held page) stage.new (PutsKeys walk.now result) (N.world nodes.old) (N.world nodes.new) }
     ensures rule { IsTurned result walk.now (N.world nodes.old) (N.world nodes.new) (N.left nodes.old) (N.left nodes.new) (Stage.Held page) stage.new }
-    ensures keys { PutsKeys walk.now result (N.world nodes.old) (N.world nodes.new) }
     ensures goes { GoesOn result stage.new }
-    ensures bears { BearsPut walk.now mark result (N.world nodes.old) (N.marked nodes.old) (N.marked nodes.new) }
+    ensures moves_on { GoesBy result mark (λ m. N.goes nodes.old m nodes.new) }
+    ensures bears { InSound (N.sound nodes.old) (Stands walk.now (Stage.Held page)) (N.world nodes.old) (λ lost. BearsPut walk.now mark result (with_lost lost (N.world nodes.old)) (λ m. N.goes nodes.old m nodes.new)) }
     ensures busy { OnBusy result (IsInTheWay (N.flushes nodes.old) (N.world nodes.old) walk.now.op) }
     ensures cause { CausedTurn result (N.faults nodes.old) (N.faults nodes.new) (N.halted nodes.old) (N.halted nodes.new) }
     ensures arrives { Arrives result walk.now (N.world nodes.old) (Stage.Held page) stage.new reach.old reach.new }
@@ -232,16 +226,15 @@ fn put_here<N: Nodes>(
     node: &mut Node,
 ) -> Turn<()>
     requires at { stage.old ≡ Stage.Held page }
-    requires stands { Stands walk.now (Stage.Held page) (N.world nodes.old) }
     requires pair { IsPair walk.now.target }
-    requires mark { N.allows nodes.old walk.now.op mark }
+    requires mark { MayBear (N.allows nodes.old walk.now.op) mark walk.now.target (Adds walk.now.at) }
     requires seen { page_at (N.world nodes.old) page ≡ Holds node.old }
     requires within { is_past node.old.high walk.now.target ≡ false }
-    ensures stepped { Stepped walk.now stage.new (N.world nodes.old) (N.world nodes.new) }
+    ensures turned { Turns (N.sound nodes.old) (N.sound nodes.new) walk.now (Stage.Held page) stage.new (PutsKeys walk.now result) (N.world nodes.old) (N.world nodes.new) }
     ensures rule { IsTurned result walk.now (N.world nodes.old) (N.world nodes.new) (N.left nodes.old) (N.left nodes.new) (Stage.Held page) stage.new }
-    ensures keys { PutsKeys walk.now result (N.world nodes.old) (N.world nodes.new) }
     ensures goes { GoesOn result stage.new }
-    ensures bears { BearsPut walk.now mark result (N.world nodes.old) (N.marked nodes.old) (N.marked nodes.new) }
+    ensures moves_on { GoesBy result mark (λ m. N.goes nodes.old m nodes.new) }
+    ensures bears { InSound (N.sound nodes.old) (Stands walk.now (Stage.Held page)) (N.world nodes.old) (λ lost. BearsPut walk.now mark result (with_lost lost (N.world nodes.old)) (λ m. N.goes nodes.old m nodes.new)) }
     ensures busy { OnBusy result (IsInTheWay (N.flushes nodes.old) (N.world nodes.old) walk.now.op) }
     ensures cause { CausedTurn result (N.faults nodes.old) (N.faults nodes.new) (N.halted nodes.old) (N.halted nodes.new) }
 {

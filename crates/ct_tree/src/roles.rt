@@ -1,7 +1,7 @@
 //! How an operation has come to its page, and so what the node there must be. An operation goes on
 //! from no page outside its role.
 
-ghost use Rattle.std.specs.Prelude.{◌≡◌, ◌==◌, ℕ, IsTrue, false, IfSome, Some, if◌then◌else◌};
+ghost use Rattle.std.specs.Prelude.{◌≡◌, ◌==◌, ℕ, false, IfSome, Some, if◌then◌else◌};
 ghost use Rattle.ct_node.specs.Turns.{OnMore};
 ghost use Rattle.ct_node.specs.Worlds.{World};
 ghost use Rattle.ct_tree_laws.specs.declared.walk.Walk.{Walk};
@@ -20,10 +20,10 @@ use ct_tree_laws::{Rise, Separator, Stage, Walk, Way};
 use std::alloc::Global;
 use std::mem::{replace, swap};
 
-/// Where operations alone made the pages, the page that an operation looks at is in its role, and
+/// In a sound store the page that an operation looks at is in its role, and
 /// what it remembers of how it came to its page and to the page above stands after each turn.
 pub fn pages_are_in_their_roles()
-    ensures role { (walk : Walk) (w : World) (at : Stage) (reach : Reach) → IsTrue w.founded → Stands walk at w → IsReached at reach w → HasRole (looked_at at) reach w }
+    ensures role { (walk : Walk) (w : World) (at : Stage) (reach : Reach) → Stands walk at w → IsReached at reach w → HasRole (looked_at at) reach w }
     ensures reached { (walk : Walk) (w now : World) (from to : Stage) (reach over : Reach) → Stands walk from w → Stepped walk to w now → Goes walk w now from to → IsReached from reach w → IsOver from over w → IsReached to (came_by walk w from to reach over) now }
     ensures over { (walk : Walk) (w now : World) (from to : Stage) (reach over after : Reach) → Stands walk from w → Stepped walk to w now → Goes walk w now from to → IsReached from reach w → IsOver from over w → CameOver from to reach over after → IsOver to after now }
 {}

@@ -1,12 +1,13 @@
 //! A list of turns of any operations over one set of nodes.
 
-ghost use Rattle.std.specs.Prelude.{◌≡◌, ◌<◌, ℕ, IsTrue, List, map, length, slice_get, OnErr, IfOk};
+ghost use Rattle.std.specs.Prelude.{◌≡◌, ◌<◌, ℕ, List, map, length, slice_get, OnErr, IfOk};
 ghost use Rattle.std.specs.List.{All};
 ghost use Rattle.ct_node.specs.declared.root.Root.{Root};
-ghost use Rattle.ct_node.specs.declared.root.Mark.{Mark};
 ghost use Rattle.ct_definitions.specs.Pairs.{Pair};
+ghost use Rattle.ct_node.specs.Worlds.{with_lost};
 ghost use Rattle.ct_tree_laws.specs.Trees.{Chain};
-ghost use Rattle.ct_tree.specs.Schedules.{task_of, op_of, IsReady, AllStand, HaveOwnNumbers, Runs, HappensAt, places_of};
+ghost use Rattle.ct_tree_laws.specs.Stands.{InSound};
+ghost use Rattle.ct_tree.specs.Schedules.{task_of, mark_of, op_of, IsReady, MayMark, AllStand, HaveOwnNumbers, Runs, HappensAt, places_of};
 
 use crate::program::{Answer, Happened, Program, turn};
 use ct_disk::Turn;
@@ -26,13 +27,12 @@ pub fn run<N: Nodes>(
     nodes: &mut N,
 ) -> Result<Vec<Happened>, NoMemory>
     requires places { All (λ place. place < length programs.old) schedule.now }
-    requires stands { AllStand programs.old (N.world nodes.old) }
     requires numbers { HaveOwnNumbers programs.old }
     requires ready { All IsReady programs.old }
-    requires marks { (any : N) (op : ℕ) (mark : Mark) → N.allows any op mark }
-    ensures runs { IfOk result (λ happened. IsTrue (N.world nodes.old).founded → (at : Root) (keys : List Pair) → Chain (N.world nodes.old) at keys → (now : List Pair) × Runs at (map task_of programs.old) happened.items keys now × Chain (N.world nodes.new) at now) }
+    requires marks { (any : N) → All (MayMark (N.allows any)) programs.old }
+    ensures runs { IfOk result (λ happened. InSound (N.sound nodes.old) (AllStand programs.old) (N.world nodes.old) (λ lost. (at : Root) (keys : List Pair) → Chain (with_lost lost (N.world nodes.old)) at keys → (now : List Pair) × Runs at (map task_of programs.old) happened.items keys now × Chain (with_lost lost (N.world nodes.new)) at now)) }
     ensures places { IfOk result (λ happened. places_of happened.items ≡ schedule.now) }
-    ensures stands { AllStand programs.new (N.world nodes.new) }
+    ensures stands { InSound (N.sound nodes.old) (AllStand programs.old) (N.world nodes.old) (λ lost. N.sound nodes.new lost × AllStand programs.new (with_lost lost (N.world nodes.new))) }
     ensures numbers { map op_of programs.new ≡ map op_of programs.old }
     ensures tasks { map task_of programs.new ≡ map task_of programs.old }
     ensures ready { All IsReady programs.new }
@@ -52,16 +52,15 @@ pub fn run<N: Nodes>(
 /// One turn of the program at a place.
 fn turn_at<N: Nodes>(programs: &mut [Program], place: usize, nodes: &mut N) -> Turn<Answer>
     requires place { place < length programs.old }
-    requires stands { AllStand programs.old (N.world nodes.old) }
     requires numbers { HaveOwnNumbers programs.old }
     requires ready { All IsReady programs.old }
-    requires marks { (any : N) (op : ℕ) (mark : Mark) → N.allows any op mark }
-    ensures stands { AllStand programs.new (N.world nodes.new) }
+    requires marks { (any : N) → All (MayMark (N.allows any)) programs.old }
+    ensures stands { InSound (N.sound nodes.old) (AllStand programs.old) (N.world nodes.old) (λ lost. N.sound nodes.new lost × AllStand programs.new (with_lost lost (N.world nodes.new))) }
     ensures numbers { map op_of programs.new ≡ map op_of programs.old }
     ensures tasks { map task_of programs.new ≡ map task_of programs.old }
     ensures ready { All IsReady programs.new }
-    ensures founded { (N.world nodes.new).founded ≡ (N.world nodes.old).founded }
-    ensures happens { IsTrue (N.world nodes.old).founded → (at : Root) (keys : List Pair) → Chain (N.world nodes.old) at keys → (now : List Pair) × HappensAt at (slice_get (map task_of programs.old) place) result keys now × Chain (N.world nodes.new) at now }
+    ensures marks { map mark_of programs.new ≡ map mark_of programs.old }
+    ensures happens { InSound (N.sound nodes.old) (AllStand programs.old) (N.world nodes.old) (λ lost. (at : Root) (keys : List Pair) → Chain (with_lost lost (N.world nodes.old)) at keys → (now : List Pair) × HappensAt at (slice_get (map task_of programs.old) place) result keys now × Chain (with_lost lost (N.world nodes.new)) at now) }
 {
     turn(&mut programs[place], nodes)
 }

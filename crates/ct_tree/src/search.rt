@@ -1,13 +1,15 @@
 //! Searching an index: shared latches from the leaf of the target to the leaf of the answer, here to
 //! the right.
 
-ghost use Rattle.std.specs.Prelude.{◌≡◌, ◌≤◌, ◌<◌, IsTrue, IfSome, None, false, true, length};
+ghost use Rattle.std.specs.Prelude.{◌≡◌, ◌≤◌, ◌<◌, IfSome, None, false, true, length};
 ghost use Rattle.ct_node.specs.Turns.{OnBusy, CausedTurn, OnMore};
-ghost use Rattle.ct_tree_laws.specs.Stands.{Stands, Stepped, KeepsKeys, HasNone};
+ghost use Rattle.ct_node.specs.Worlds.{no_mark, with_lost};
+ghost use Rattle.ct_tree_laws.specs.Stands.{Stands, KeepsKeys, HasNone, InSound, Turned, Turns};
 ghost use Rattle.ct_tree.specs.Answers.{is_done, TellsFound, IsFound, IsInTheWay, IsSearching, IsSeeking, IsSearchingBy, found_right, found_by};
-ghost use Rattle.ct_tree.specs.Rules.{IsTurned, GivesWay};
+ghost use Rattle.ct_tree.specs.Rules.{IsTurned, GivesWay, Visits};
 ghost use Rattle.ct_tree.specs.Moves.{looked_at, spot_of, moves_after};
 ghost use Rattle.ct_tree.specs.Counted.{IsCounted};
+ghost use Rattle.ct_tree.specs.Remembered.{Remembers, IsComing};
 ghost use Rattle.ct_tree.specs.Roles.{HasRole, HasCome, Comes, StaysOutside, Follows, Arrives};
 ghost use Rattle.ct_tree.specs.Ends.{left_of, IsLess};
 
@@ -57,24 +59,20 @@ impl Search {
     /// keeps the latches under which it was found. A search that is `Busy` has given all its latches
     /// back, and begins again.
     pub fn turn<N: Nodes>(&mut self, nodes: &mut N) -> Turn<Option<Pair>>
-        requires stands { Stands self.old.walk self.old.stage (N.world nodes.old) }
         requires open { IsSearchingBy self.old.seek self.old.stage }
-        requires counted { IsCounted self.old.stage self.old.moves (N.world nodes.old) }
-        requires come { HasCome self.old.stage self.old.ways (N.world nodes.old) }
         ensures walk { self.new.walk ≡ self.old.walk }
         ensures seek { self.new.seek ≡ self.old.seek }
-        ensures stepped { Stepped self.old.walk self.new.stage (N.world nodes.old) (N.world nodes.new) }
+        ensures turned { InSound (N.sound nodes.old) (Remembers self.old.walk self.old.stage self.old.moves self.old.ways) (N.world nodes.old) (Turned (N.sound nodes.new) self.old.walk self.new.stage KeepsKeys (N.world nodes.old) (N.world nodes.new)) }
         ensures rule { IsTurned result self.old.walk (N.world nodes.old) (N.world nodes.new) (N.left nodes.old) (N.left nodes.new) self.old.stage self.new.stage }
-        ensures counted { IsCounted self.new.stage self.new.moves (N.world nodes.new) }
+        ensures counted { InSound (N.sound nodes.old) (Remembers self.old.walk self.old.stage self.old.moves self.old.ways) (N.world nodes.old) (λ lost. IsCounted self.new.stage self.new.moves (with_lost lost (N.world nodes.new))) }
         ensures moves { self.new.moves ≡ moves_after (spot_of self.old.stage) (spot_of self.new.stage) self.old.moves }
         ensures role { StaysOutside result self.old.stage self.new.stage self.old.ways.at (N.world nodes.old) }
-        ensures come { HasCome self.new.stage self.new.ways (N.world nodes.new) }
+        ensures come { InSound (N.sound nodes.old) (Remembers self.old.walk self.old.stage self.old.moves self.old.ways) (N.world nodes.old) (λ lost. HasCome self.new.stage self.new.ways (with_lost lost (N.world nodes.new))) }
         ensures comes { OnMore result (Comes self.old.walk (N.world nodes.old) self.old.stage self.new.stage self.old.ways self.new.ways) }
         ensures left { OnMore result (IsLess (left_of self.new.stage self.new.moves (N.world nodes.new) (N.left nodes.new)) (left_of self.old.stage self.old.moves (N.world nodes.old) (N.left nodes.old))) }
-        ensures keys { KeepsKeys (N.world nodes.old) (N.world nodes.new) }
-        ensures found { IsFound self.old.walk (found_by self.old.seek) result (N.world nodes.old) }
+        ensures found { InSound (N.sound nodes.old) (Remembers self.old.walk self.old.stage self.old.moves self.old.ways) (N.world nodes.old) (λ lost. IsFound self.old.walk (found_by self.old.seek) result (with_lost lost (N.world nodes.old))) }
         ensures open { IsSearchingBy self.new.seek self.new.stage }
-        ensures bears { N.marked nodes.new ≡ N.marked nodes.old }
+        ensures goes { N.goes nodes.old no_mark nodes.new }
         ensures busy { OnBusy result (IsInTheWay (N.flushes nodes.old) (N.world nodes.old) self.old.walk.op) }
         ensures given_back { OnBusy result (λ _. HasNone self.old.walk.op (N.world nodes.new)) }
         ensures cause { CausedTurn result (N.faults nodes.old) (N.faults nodes.new) (N.halted nodes.old) (N.halted nodes.new) }
@@ -101,18 +99,18 @@ impl Search {
 
     /// Ends the search: none of its latches stands afterwards.
     pub fn end<N: Nodes>(&mut self, nodes: &mut N)
-        requires stands { Stands self.old.walk self.old.stage (N.world nodes.old) }
         requires open { IsSearchingBy self.old.seek self.old.stage }
         ensures walk { self.new.walk ≡ self.old.walk }
         ensures seek { self.new.seek ≡ self.old.seek }
         ensures ended { self.new.stage ≡ Stage.Ended }
         ensures moves { self.new.moves ≡ 0 }
-        ensures come { HasCome self.new.stage self.new.ways (N.world nodes.new) }
-        ensures stepped { Stepped self.old.walk self.new.stage (N.world nodes.old) (N.world nodes.new) }
-        ensures keys { KeepsKeys (N.world nodes.old) (N.world nodes.new) }
+        ensures come { InSound (N.sound nodes.old) (Remembers self.old.walk self.old.stage self.old.moves self.old.ways) (N.world nodes.old) (λ lost. HasCome self.new.stage self.new.ways (with_lost lost (N.world nodes.new))) }
+        ensures turned { InSound (N.sound nodes.old) (Remembers self.old.walk self.old.stage self.old.moves self.old.ways) (N.world nodes.old) (Turned (N.sound nodes.new) self.old.walk self.new.stage KeepsKeys (N.world nodes.old) (N.world nodes.new)) }
         ensures given_back { HasNone self.old.walk.op (N.world nodes.new) }
-        ensures bears { N.marked nodes.new ≡ N.marked nodes.old }
+        ensures goes { N.goes nodes.old no_mark nodes.new }
+        ensures pages { Visits (N.world nodes.old) (N.world nodes.new) }
         ensures faults { N.faults nodes.new ≡ N.faults nodes.old }
+        ensures halted { N.halted nodes.new ≡ N.halted nodes.old }
     {
         nodes.free_all(self.walk.op);
         self.stage = Stage::Ended;
@@ -131,16 +129,13 @@ fn seek_step<N: Nodes>(
     found: &mut Option<Pair>,
 ) -> Turn<()>
     requires unfound { found.old ≡ None }
-    requires stands { Stands walk.now stage.old (N.world nodes.old) }
     requires open { IsSearchingBy seek stage.old }
-    requires role { IsTrue (N.world nodes.old).founded → HasRole (looked_at stage.old) ways.old.at (N.world nodes.old) }
-    ensures stepped { Stepped walk.now stage.new (N.world nodes.old) (N.world nodes.new) }
+    ensures turned { InSound (N.sound nodes.old) (IsComing walk.now stage.old ways.old.at) (N.world nodes.old) (Turned (N.sound nodes.new) walk.now stage.new KeepsKeys (N.world nodes.old) (N.world nodes.new)) }
     ensures rule { IsTurned result walk.now (N.world nodes.old) (N.world nodes.new) (N.left nodes.old) (N.left nodes.new) stage.old stage.new }
     ensures role { StaysOutside result stage.old stage.new ways.old.at (N.world nodes.old) }
-    ensures keys { KeepsKeys (N.world nodes.old) (N.world nodes.new) }
-    ensures found { TellsFound walk.now (found_by seek) result found.new (N.world nodes.old) }
+    ensures found { InSound (N.sound nodes.old) (IsComing walk.now stage.old ways.old.at) (N.world nodes.old) (λ lost. TellsFound walk.now (found_by seek) result found.new (with_lost lost (N.world nodes.old))) }
     ensures searching { IsSearchingBy seek stage.new }
-    ensures bears { N.marked nodes.new ≡ N.marked nodes.old }
+    ensures goes { N.goes nodes.old no_mark nodes.new }
     ensures busy { OnBusy result (IsInTheWay (N.flushes nodes.old) (N.world nodes.old) walk.now.op) }
     ensures cause { CausedTurn result (N.faults nodes.old) (N.faults nodes.new) (N.halted nodes.old) (N.halted nodes.new) }
     ensures follows { Follows result walk.now (N.world nodes.old) stage.old stage.new ways.old ways.new }
@@ -163,15 +158,13 @@ fn seek_seen<N: Nodes>(
     found: &mut Option<Pair>,
 ) -> Turn<()>
     requires unfound { found.old ≡ None }
-    requires stands { Stands walk.now stage.old (N.world nodes.old) }
     requires open { IsSearchingBy seek stage.old }
     requires shown { IfSome (looked_at stage.old) (N.shows nodes.old) }
-    ensures stepped { Stepped walk.now stage.new (N.world nodes.old) (N.world nodes.new) }
+    ensures turned { Turns (N.sound nodes.old) (N.sound nodes.new) walk.now stage.old stage.new KeepsKeys (N.world nodes.old) (N.world nodes.new) }
     ensures rule { IsTurned result walk.now (N.world nodes.old) (N.world nodes.new) (N.left nodes.old) (N.left nodes.new) stage.old stage.new }
-    ensures keys { KeepsKeys (N.world nodes.old) (N.world nodes.new) }
-    ensures found { TellsFound walk.now (found_by seek) result found.new (N.world nodes.old) }
+    ensures found { InSound (N.sound nodes.old) (Stands walk.now stage.old) (N.world nodes.old) (λ lost. TellsFound walk.now (found_by seek) result found.new (with_lost lost (N.world nodes.old))) }
     ensures searching { IsSearchingBy seek stage.new }
-    ensures bears { N.marked nodes.new ≡ N.marked nodes.old }
+    ensures goes { N.goes nodes.old no_mark nodes.new }
     ensures busy { OnBusy result (IsInTheWay (N.flushes nodes.old) (N.world nodes.old) walk.now.op) }
     ensures cause { CausedTurn result (N.faults nodes.old) (N.faults nodes.new) (N.halted nodes.old) (N.halted nodes.new) }
     ensures follows { Follows result walk.now (N.world nodes.old) stage.old stage.new ways.old ways.new }
@@ -186,13 +179,11 @@ fn seek_seen<N: Nodes>(
 
 /// Where another operation is in the way, gives all latches back, and the search begins again.
 fn give_way<N: Nodes>(walk: &Walk, seek: Seek, stage: &mut Stage, turn: &Turn<()>, nodes: &mut N)
-    requires stands { Stands walk.now stage.old (N.world nodes.old) }
     requires open { IsSearchingBy seek stage.old }
-    ensures stepped { Stepped walk.now stage.new (N.world nodes.old) (N.world nodes.new) }
-    ensures keys { KeepsKeys (N.world nodes.old) (N.world nodes.new) }
+    ensures turned { Turns (N.sound nodes.old) (N.sound nodes.new) walk.now stage.old stage.new KeepsKeys (N.world nodes.old) (N.world nodes.new) }
     ensures searching { IsSearchingBy seek stage.new }
     ensures given_back { OnBusy turn.now (λ _. HasNone walk.now.op (N.world nodes.new)) }
-    ensures bears { N.marked nodes.new ≡ N.marked nodes.old }
+    ensures goes { N.goes nodes.old no_mark nodes.new }
     ensures gives_way { GivesWay turn.now (N.world nodes.old) (N.world nodes.new) (N.left nodes.old) (N.left nodes.new) stage.old stage.new }
     ensures faults { N.faults nodes.new ≡ N.faults nodes.old }
     ensures halted { N.halted nodes.new ≡ N.halted nodes.old }
@@ -214,15 +205,13 @@ fn search_step<N: Nodes>(
     found: &mut Option<Pair>,
 ) -> Turn<()>
     requires unfound { found.old ≡ None }
-    requires stands { Stands walk.now stage.old (N.world nodes.old) }
     requires open { IsSearching above stage.old }
     requires shown { IfSome (looked_at stage.old) (N.shows nodes.old) }
-    ensures stepped { Stepped walk.now stage.new (N.world nodes.old) (N.world nodes.new) }
+    ensures turned { Turns (N.sound nodes.old) (N.sound nodes.new) walk.now stage.old stage.new KeepsKeys (N.world nodes.old) (N.world nodes.new) }
     ensures rule { IsTurned result walk.now (N.world nodes.old) (N.world nodes.new) (N.left nodes.old) (N.left nodes.new) stage.old stage.new }
-    ensures keys { KeepsKeys (N.world nodes.old) (N.world nodes.new) }
-    ensures found { TellsFound walk.now (found_right above) result found.new (N.world nodes.old) }
+    ensures found { InSound (N.sound nodes.old) (Stands walk.now stage.old) (N.world nodes.old) (λ lost. TellsFound walk.now (found_right above) result found.new (with_lost lost (N.world nodes.old))) }
     ensures searching { IsSearching above stage.new }
-    ensures bears { N.marked nodes.new ≡ N.marked nodes.old }
+    ensures goes { N.goes nodes.old no_mark nodes.new }
     ensures busy { OnBusy result (IsInTheWay (N.flushes nodes.old) (N.world nodes.old) walk.now.op) }
     ensures cause { CausedTurn result (N.faults nodes.old) (N.faults nodes.new) (N.halted nodes.old) (N.halted nodes.new) }
     ensures follows { Follows result walk.now (N.world nodes.old) stage.old stage.new ways.old ways.new }
@@ -242,15 +231,13 @@ fn find_shared<N: Nodes>(
     reach: &mut Reach,
     nodes: &mut N,
 ) -> Turn<()>
-    requires stands { Stands walk.now stage.old (N.world nodes.old) }
     requires open { IsSeeking above stage.old }
     requires shown { IfSome (looked_at stage.old) (N.shows nodes.old) }
-    ensures stepped { Stepped walk.now stage.new (N.world nodes.old) (N.world nodes.new) }
+    ensures turned { Turns (N.sound nodes.old) (N.sound nodes.new) walk.now stage.old stage.new KeepsKeys (N.world nodes.old) (N.world nodes.new) }
     ensures rule { IsTurned result walk.now (N.world nodes.old) (N.world nodes.new) (N.left nodes.old) (N.left nodes.new) stage.old stage.new }
-    ensures keys { KeepsKeys (N.world nodes.old) (N.world nodes.new) }
     ensures going { is_done result ≡ false }
     ensures searching { IsSearching above stage.new }
-    ensures bears { N.marked nodes.new ≡ N.marked nodes.old }
+    ensures goes { N.goes nodes.old no_mark nodes.new }
     ensures busy { OnBusy result (IsInTheWay (N.flushes nodes.old) (N.world nodes.old) walk.now.op) }
     ensures cause { CausedTurn result (N.faults nodes.old) (N.faults nodes.new) (N.halted nodes.old) (N.halted nodes.new) }
     ensures arrives { Arrives result walk.now (N.world nodes.old) stage.old stage.new reach.old reach.new }
@@ -288,13 +275,11 @@ pub(crate) fn share_leaf<N: Nodes>(
     nodes: &mut N,
 ) -> Turn<()>
     requires at { stage.old ≡ Stage.Leaf page }
-    requires stands { Stands walk.now (Stage.Leaf page) (N.world nodes.old) }
-    ensures stepped { Stepped walk.now stage.new (N.world nodes.old) (N.world nodes.new) }
+    ensures turned { Turns (N.sound nodes.old) (N.sound nodes.new) walk.now (Stage.Leaf page) stage.new KeepsKeys (N.world nodes.old) (N.world nodes.new) }
     ensures rule { IsTurned result walk.now (N.world nodes.old) (N.world nodes.new) (N.left nodes.old) (N.left nodes.new) (Stage.Leaf page) stage.new }
-    ensures keys { KeepsKeys (N.world nodes.old) (N.world nodes.new) }
     ensures going { is_done result ≡ false }
     ensures searching { IsSearching above stage.new }
-    ensures bears { N.marked nodes.new ≡ N.marked nodes.old }
+    ensures goes { N.goes nodes.old no_mark nodes.new }
     ensures busy { OnBusy result (IsInTheWay (N.flushes nodes.old) (N.world nodes.old) walk.now.op) }
     ensures cause { CausedTurn result (N.faults nodes.old) (N.faults nodes.new) (N.halted nodes.old) (N.halted nodes.new) }
 {
@@ -315,13 +300,11 @@ pub(crate) fn share_next<N: Nodes>(
     nodes: &mut N,
 ) -> Turn<()>
     requires at { stage.old ≡ Stage.Share page above }
-    requires stands { Stands walk.now (Stage.Share page above) (N.world nodes.old) }
-    ensures stepped { Stepped walk.now stage.new (N.world nodes.old) (N.world nodes.new) }
+    ensures turned { Turns (N.sound nodes.old) (N.sound nodes.new) walk.now (Stage.Share page above) stage.new KeepsKeys (N.world nodes.old) (N.world nodes.new) }
     ensures rule { IsTurned result walk.now (N.world nodes.old) (N.world nodes.new) (N.left nodes.old) (N.left nodes.new) (Stage.Share page above) stage.new }
-    ensures keys { KeepsKeys (N.world nodes.old) (N.world nodes.new) }
     ensures going { is_done result ≡ false }
     ensures searching { IsSearching above stage.new }
-    ensures bears { N.marked nodes.new ≡ N.marked nodes.old }
+    ensures goes { N.goes nodes.old no_mark nodes.new }
     ensures busy { OnBusy result (IsInTheWay (N.flushes nodes.old) (N.world nodes.old) walk.now.op) }
     ensures cause { CausedTurn result (N.faults nodes.old) (N.faults nodes.new) (N.halted nodes.old) (N.halted nodes.new) }
 {
@@ -347,14 +330,12 @@ pub(crate) fn look_shared<N: Nodes>(
 ) -> Turn<()>
     requires at { stage.old ≡ Stage.Shared page above }
     requires unfound { found.old ≡ None }
-    requires stands { Stands walk.now (Stage.Shared page above) (N.world nodes.old) }
     requires shown { N.shows nodes.old page }
-    ensures stepped { Stepped walk.now stage.new (N.world nodes.old) (N.world nodes.new) }
+    ensures turned { Turns (N.sound nodes.old) (N.sound nodes.new) walk.now (Stage.Shared page above) stage.new KeepsKeys (N.world nodes.old) (N.world nodes.new) }
     ensures rule { IsTurned result walk.now (N.world nodes.old) (N.world nodes.new) (N.left nodes.old) (N.left nodes.new) (Stage.Shared page above) stage.new }
-    ensures keys { KeepsKeys (N.world nodes.old) (N.world nodes.new) }
-    ensures found { TellsFound walk.now (found_right above) result found.new (N.world nodes.old) }
+    ensures found { InSound (N.sound nodes.old) (Stands walk.now (Stage.Shared page above)) (N.world nodes.old) (λ lost. TellsFound walk.now (found_right above) result found.new (with_lost lost (N.world nodes.old))) }
     ensures searching { IsSearching above stage.new }
-    ensures bears { N.marked nodes.new ≡ N.marked nodes.old }
+    ensures goes { N.goes nodes.old no_mark nodes.new }
     ensures busy { OnBusy result (IsInTheWay (N.flushes nodes.old) (N.world nodes.old) walk.now.op) }
     ensures cause { CausedTurn result (N.faults nodes.old) (N.faults nodes.new) (N.halted nodes.old) (N.halted nodes.new) }
     ensures arrives { Arrives result walk.now (N.world nodes.old) (Stage.Shared page above) stage.new reach.old reach.new }

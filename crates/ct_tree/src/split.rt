@@ -1,11 +1,11 @@
 //! The split of a full leaf in three moves: a page is allocated, the right half written into it,
 //! and the left node cut.
 
-ghost use Rattle.std.specs.Prelude.{◌≡◌, ◌⊎◌, ◌≤◌, IsTrue, false, true, length};
+ghost use Rattle.std.specs.Prelude.{◌≡◌, ◌⊎◌, ◌≤◌, false, true, length};
 ghost use Rattle.ct_node.specs.Nodes.{IsNode};
 ghost use Rattle.ct_node.specs.Worlds.{no_mark};
 ghost use Rattle.ct_node.specs.Turns.{OnBusy, CausedTurn};
-ghost use Rattle.ct_tree_laws.specs.Stands.{Stands, Stepped, KeepsKeys};
+ghost use Rattle.ct_tree_laws.specs.Stands.{KeepsKeys, Turns};
 ghost use Rattle.ct_tree.specs.Answers.{is_done, IsInTheWay, IsPutting};
 ghost use Rattle.ct_tree.specs.Rules.{IsTurned, is_full};
 
@@ -23,13 +23,11 @@ pub(crate) fn allocate<N: Nodes>(
     nodes: &mut N,
 ) -> Turn<()>
     requires at { stage.old ≡ Stage.Full page }
-    requires stands { Stands walk.now (Stage.Full page) (N.world nodes.old) }
-    ensures stepped { Stepped walk.now stage.new (N.world nodes.old) (N.world nodes.new) }
+    ensures turned { Turns (N.sound nodes.old) (N.sound nodes.new) walk.now (Stage.Full page) stage.new KeepsKeys (N.world nodes.old) (N.world nodes.new) }
     ensures rule { IsTurned result walk.now (N.world nodes.old) (N.world nodes.new) (N.left nodes.old) (N.left nodes.new) (Stage.Full page) stage.new }
-    ensures keys { KeepsKeys (N.world nodes.old) (N.world nodes.new) }
     ensures going { is_done result ≡ false }
     ensures putting { IsPutting stage.new }
-    ensures bears { N.marked nodes.new ≡ N.marked nodes.old }
+    ensures goes { N.goes nodes.old no_mark nodes.new }
     ensures busy { OnBusy result (IsInTheWay (N.flushes nodes.old) (N.world nodes.old) walk.now.op) }
     ensures cause { CausedTurn result (N.faults nodes.old) (N.faults nodes.new) (N.halted nodes.old) (N.halted nodes.new) }
 {
@@ -53,14 +51,12 @@ pub(crate) fn write_right<N: Nodes>(
     upper: &mut Node,
 ) -> Turn<()>
     requires at { stage.old ≡ Stage.Split page right }
-    requires stands { Stands walk.now (Stage.Split page right) (N.world nodes.old) }
     requires shown { N.shows nodes.old page }
-    ensures stepped { Stepped walk.now stage.new (N.world nodes.old) (N.world nodes.new) }
+    ensures turned { Turns (N.sound nodes.old) (N.sound nodes.new) walk.now (Stage.Split page right) stage.new KeepsKeys (N.world nodes.old) (N.world nodes.new) }
     ensures rule { IsTurned result walk.now (N.world nodes.old) (N.world nodes.new) (N.left nodes.old) (N.left nodes.new) (Stage.Split page right) stage.new }
-    ensures keys { KeepsKeys (N.world nodes.old) (N.world nodes.new) }
     ensures going { is_done result ≡ false }
     ensures putting { IsPutting stage.new }
-    ensures bears { (N.marked nodes.new ≡ N.marked nodes.old) ⊎ (N.marked nodes.new ≡ no_mark) }
+    ensures goes { N.goes nodes.old no_mark nodes.new }
     ensures busy { OnBusy result (IsInTheWay (N.flushes nodes.old) (N.world nodes.old) walk.now.op) }
     ensures cause { CausedTurn result (N.faults nodes.old) (N.faults nodes.new) (N.halted nodes.old) (N.halted nodes.new) }
 {
@@ -99,14 +95,12 @@ pub(crate) fn cut_left<N: Nodes>(
     node: &mut Node,
 ) -> Turn<()>
     requires at { stage.old ≡ Stage.Cut page right }
-    requires stands { Stands walk.now (Stage.Cut page right) (N.world nodes.old) }
     requires shown { N.shows nodes.old page }
-    ensures stepped { Stepped walk.now stage.new (N.world nodes.old) (N.world nodes.new) }
+    ensures turned { Turns (N.sound nodes.old) (N.sound nodes.new) walk.now (Stage.Cut page right) stage.new KeepsKeys (N.world nodes.old) (N.world nodes.new) }
     ensures rule { IsTurned result walk.now (N.world nodes.old) (N.world nodes.new) (N.left nodes.old) (N.left nodes.new) (Stage.Cut page right) stage.new }
-    ensures keys { KeepsKeys (N.world nodes.old) (N.world nodes.new) }
     ensures going { is_done result ≡ false }
     ensures putting { IsPutting stage.new }
-    ensures bears { (N.marked nodes.new ≡ N.marked nodes.old) ⊎ (N.marked nodes.new ≡ no_mark) }
+    ensures goes { N.goes nodes.old no_mark nodes.new }
     ensures busy { OnBusy result (IsInTheWay (N.flushes nodes.old) (N.world nodes.old) walk.now.op) }
     ensures cause { CausedTurn result (N.faults nodes.old) (N.faults nodes.new) (N.halted nodes.old) (N.halted nodes.new) }
 {

@@ -1,9 +1,9 @@
 //! The split of a full inner node in three moves, before a separator is posted to one of its halves.
 
-ghost use Rattle.std.specs.Prelude.{◌≡◌, ◌⊎◌, IsTrue, false, true};
+ghost use Rattle.std.specs.Prelude.{◌≡◌, ◌⊎◌, false, true};
 ghost use Rattle.ct_node.specs.Worlds.{no_mark};
 ghost use Rattle.ct_node.specs.Turns.{OnBusy, CausedTurn};
-ghost use Rattle.ct_tree_laws.specs.Stands.{Stands, Stepped, KeepsKeys};
+ghost use Rattle.ct_tree_laws.specs.Stands.{KeepsKeys, Turns};
 ghost use Rattle.ct_tree.specs.Answers.{is_done, IsInTheWay, IsPutting};
 ghost use Rattle.ct_tree.specs.Rules.{IsTurned};
 
@@ -21,13 +21,11 @@ pub(crate) fn allocate_above<N: Nodes>(
     separator: Separator,
     page: u64,
 ) -> (Stage, Turn<()>)
-    requires { Stands walk.now (Stage.Post separator (Rise.Full page)) (N.world nodes.old) }
-    ensures stepped { Stepped walk.now result.0 (N.world nodes.old) (N.world nodes.new) }
+    ensures turned { Turns (N.sound nodes.old) (N.sound nodes.new) walk.now (Stage.Post separator (Rise.Full page)) result.0 KeepsKeys (N.world nodes.old) (N.world nodes.new) }
     ensures rule { IsTurned result.1 walk.now (N.world nodes.old) (N.world nodes.new) (N.left nodes.old) (N.left nodes.new) (Stage.Post separator (Rise.Full page)) result.0 }
-    ensures keys { KeepsKeys (N.world nodes.old) (N.world nodes.new) }
     ensures going { is_done result.1 ≡ false }
     ensures putting { IsPutting result.0 }
-    ensures bears { N.marked nodes.new ≡ N.marked nodes.old }
+    ensures goes { N.goes nodes.old no_mark nodes.new }
     ensures busy { OnBusy result.1 (IsInTheWay (N.flushes nodes.old) (N.world nodes.old) walk.now.op) }
     ensures cause { CausedTurn result.1 (N.faults nodes.old) (N.faults nodes.new) (N.halted nodes.old) (N.halted nodes.new) }
 {
@@ -60,13 +58,11 @@ pub(crate) fn own_right<N: Nodes>(
     page: u64,
     right: u64,
 ) -> (Stage, Turn<()>)
-    requires { Stands walk.now (Stage.Post separator (Rise.Fresh page right)) (N.world nodes.old) }
-    ensures stepped { Stepped walk.now result.0 (N.world nodes.old) (N.world nodes.new) }
+    ensures turned { Turns (N.sound nodes.old) (N.sound nodes.new) walk.now (Stage.Post separator (Rise.Fresh page right)) result.0 KeepsKeys (N.world nodes.old) (N.world nodes.new) }
     ensures rule { IsTurned result.1 walk.now (N.world nodes.old) (N.world nodes.new) (N.left nodes.old) (N.left nodes.new) (Stage.Post separator (Rise.Fresh page right)) result.0 }
-    ensures keys { KeepsKeys (N.world nodes.old) (N.world nodes.new) }
     ensures going { is_done result.1 ≡ false }
     ensures putting { IsPutting result.0 }
-    ensures bears { N.marked nodes.new ≡ N.marked nodes.old }
+    ensures goes { N.goes nodes.old no_mark nodes.new }
     ensures busy { OnBusy result.1 (IsInTheWay (N.flushes nodes.old) (N.world nodes.old) walk.now.op) }
     ensures cause { CausedTurn result.1 (N.faults nodes.old) (N.faults nodes.new) (N.halted nodes.old) (N.halted nodes.new) }
 {
@@ -88,14 +84,12 @@ pub(crate) fn write_above<N: Nodes>(
     right: u64,
     upper: &mut Node,
 ) -> (Stage, Turn<()>)
-    requires stands { Stands walk.now (Stage.Post separator (Rise.Split page right)) (N.world nodes.old) }
     requires shown { N.shows nodes.old page }
-    ensures stepped { Stepped walk.now result.0 (N.world nodes.old) (N.world nodes.new) }
+    ensures turned { Turns (N.sound nodes.old) (N.sound nodes.new) walk.now (Stage.Post separator (Rise.Split page right)) result.0 KeepsKeys (N.world nodes.old) (N.world nodes.new) }
     ensures rule { IsTurned result.1 walk.now (N.world nodes.old) (N.world nodes.new) (N.left nodes.old) (N.left nodes.new) (Stage.Post separator (Rise.Split page right)) result.0 }
-    ensures keys { KeepsKeys (N.world nodes.old) (N.world nodes.new) }
     ensures going { is_done result.1 ≡ false }
     ensures putting { IsPutting result.0 }
-    ensures bears { (N.marked nodes.new ≡ N.marked nodes.old) ⊎ (N.marked nodes.new ≡ no_mark) }
+    ensures goes { N.goes nodes.old no_mark nodes.new }
     ensures busy { OnBusy result.1 (IsInTheWay (N.flushes nodes.old) (N.world nodes.old) walk.now.op) }
     ensures cause { CausedTurn result.1 (N.faults nodes.old) (N.faults nodes.new) (N.halted nodes.old) (N.halted nodes.new) }
 {
@@ -126,14 +120,12 @@ pub(crate) fn cut_above<N: Nodes>(
     right: u64,
     node: &mut Node,
 ) -> (Stage, Turn<()>)
-    requires stands { Stands walk.now (Stage.Post separator (Rise.Cut page right)) (N.world nodes.old) }
     requires shown { N.shows nodes.old page }
-    ensures stepped { Stepped walk.now result.0 (N.world nodes.old) (N.world nodes.new) }
+    ensures turned { Turns (N.sound nodes.old) (N.sound nodes.new) walk.now (Stage.Post separator (Rise.Cut page right)) result.0 KeepsKeys (N.world nodes.old) (N.world nodes.new) }
     ensures rule { IsTurned result.1 walk.now (N.world nodes.old) (N.world nodes.new) (N.left nodes.old) (N.left nodes.new) (Stage.Post separator (Rise.Cut page right)) result.0 }
-    ensures keys { KeepsKeys (N.world nodes.old) (N.world nodes.new) }
     ensures going { is_done result.1 ≡ false }
     ensures putting { IsPutting result.0 }
-    ensures bears { (N.marked nodes.new ≡ N.marked nodes.old) ⊎ (N.marked nodes.new ≡ no_mark) }
+    ensures goes { N.goes nodes.old no_mark nodes.new }
     ensures busy { OnBusy result.1 (IsInTheWay (N.flushes nodes.old) (N.world nodes.old) walk.now.op) }
     ensures cause { CausedTurn result.1 (N.faults nodes.old) (N.faults nodes.new) (N.halted nodes.old) (N.halted nodes.new) }
 {

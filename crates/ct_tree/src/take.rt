@@ -1,14 +1,15 @@
 //! Taking a pair: the leaf found, made the operation's own, and written without the pair.
 
-ghost use Rattle.std.specs.Prelude.{◌≡◌, ◌≤◌, ◌==◌, ◌&&◌, IsTrue, IfSome, false, true, length};
+ghost use Rattle.std.specs.Prelude.{◌≡◌, ◌≤◌, ◌==◌, ◌&&◌, IfSome, false, true, length};
 ghost use Rattle.ct_node.specs.Places.{is_past};
-ghost use Rattle.ct_node.specs.Worlds.{Holds, page_at};
+ghost use Rattle.ct_node.specs.Worlds.{Holds, page_at, with_lost, Drops};
 ghost use Rattle.ct_node.specs.Turns.{OnDone, OnBusy, CausedTurn, OnMore};
-ghost use Rattle.ct_tree_laws.specs.Stands.{Stands, Stepped, HasNone};
-ghost use Rattle.ct_tree.specs.Answers.{IsPair, TakesKeys, TellsTaken, TakenKeys, IsTaken, IsInTheWay, IsTaking, TakeGoesOn, BearsTake, BearsTaken};
+ghost use Rattle.ct_tree_laws.specs.Stands.{Stands, HasNone, InSound, Turned, Turns};
+ghost use Rattle.ct_tree.specs.Answers.{IsPair, TakesKeys, TellsTaken, TakenKeys, IsTaken, IsInTheWay, IsTaking, TakeGoesOn, BearsTake, BearsTaken, MayBear};
 ghost use Rattle.ct_tree.specs.Rules.{IsTurned};
 ghost use Rattle.ct_tree.specs.Moves.{looked_at, spot_of, moves_after};
 ghost use Rattle.ct_tree.specs.Counted.{IsCounted};
+ghost use Rattle.ct_tree.specs.Remembered.{Remembers, IsComing};
 ghost use Rattle.ct_tree.specs.Roles.{HasRole, HasCome, Comes, StaysOutside, Follows, Arrives};
 ghost use Rattle.ct_tree.specs.Ends.{left_of, IsLess};
 
@@ -58,27 +59,23 @@ impl Take {
     /// One turn. The turn that answers `Done` has taken the pair, tells whether it was there, and has
     /// given back what the take took; no other turn changes the pairs of any index.
     pub fn turn<N: Nodes>(&mut self, nodes: &mut N) -> Turn<bool>
-        requires stands { Stands self.old.walk self.old.stage (N.world nodes.old) }
         requires pair { IsPair self.old.walk.target }
         requires open { IsTaking self.old.stage }
-        requires mark { N.allows nodes.old self.old.walk.op self.old.mark }
-        requires counted { IsCounted self.old.stage self.old.moves (N.world nodes.old) }
-        requires come { HasCome self.old.stage self.old.ways (N.world nodes.old) }
+        requires mark { MayBear (N.allows nodes.old self.old.walk.op) self.old.mark self.old.walk.target (Drops self.old.walk.at) }
         ensures walk { self.new.walk ≡ self.old.walk }
         ensures mark { self.new.mark ≡ self.old.mark }
-        ensures stepped { Stepped self.old.walk self.new.stage (N.world nodes.old) (N.world nodes.new) }
+        ensures turned { InSound (N.sound nodes.old) (Remembers self.old.walk self.old.stage self.old.moves self.old.ways) (N.world nodes.old) (Turned (N.sound nodes.new) self.old.walk self.new.stage (TakenKeys self.old.walk result) (N.world nodes.old) (N.world nodes.new)) }
         ensures rule { IsTurned result self.old.walk (N.world nodes.old) (N.world nodes.new) (N.left nodes.old) (N.left nodes.new) self.old.stage self.new.stage }
-        ensures counted { IsCounted self.new.stage self.new.moves (N.world nodes.new) }
+        ensures counted { InSound (N.sound nodes.old) (Remembers self.old.walk self.old.stage self.old.moves self.old.ways) (N.world nodes.old) (λ lost. IsCounted self.new.stage self.new.moves (with_lost lost (N.world nodes.new))) }
         ensures moves { self.new.moves ≡ moves_after (spot_of self.old.stage) (spot_of self.new.stage) self.old.moves }
         ensures role { StaysOutside result self.old.stage self.new.stage self.old.ways.at (N.world nodes.old) }
-        ensures come { HasCome self.new.stage self.new.ways (N.world nodes.new) }
+        ensures come { InSound (N.sound nodes.old) (Remembers self.old.walk self.old.stage self.old.moves self.old.ways) (N.world nodes.old) (λ lost. HasCome self.new.stage self.new.ways (with_lost lost (N.world nodes.new))) }
         ensures comes { OnMore result (Comes self.old.walk (N.world nodes.old) self.old.stage self.new.stage self.old.ways self.new.ways) }
         ensures left { OnMore result (IsLess (left_of self.new.stage self.new.moves (N.world nodes.new) (N.left nodes.new)) (left_of self.old.stage self.old.moves (N.world nodes.old) (N.left nodes.old))) }
-        ensures keys { TakenKeys self.old.walk result (N.world nodes.old) (N.world nodes.new) }
-        ensures found { IsTaken self.old.walk result (N.world nodes.old) }
+        ensures found { InSound (N.sound nodes.old) (Remembers self.old.walk self.old.stage self.old.moves self.old.ways) (N.world nodes.old) (λ lost. IsTaken self.old.walk result (with_lost lost (N.world nodes.old))) }
         ensures goes { TakeGoesOn result self.new.stage }
-        ensures given_back { OnDone result (λ _. IsTrue (N.world nodes.old).founded → HasNone self.old.walk.op (N.world nodes.new)) }
-        ensures bears { BearsTaken self.old.mark result (N.marked nodes.old) (N.marked nodes.new) }
+        ensures given_back { InSound (N.sound nodes.old) (Remembers self.old.walk self.old.stage self.old.moves self.old.ways) (N.world nodes.old) (λ lost. OnDone result (λ _. HasNone self.old.walk.op (N.world nodes.new))) }
+        ensures bears { BearsTaken self.old.mark result (λ m. N.goes nodes.old m nodes.new) }
         ensures busy { OnBusy result (IsInTheWay (N.flushes nodes.old) (N.world nodes.old) self.old.walk.op) }
         ensures cause { CausedTurn result (N.faults nodes.old) (N.faults nodes.new) (N.halted nodes.old) (N.halted nodes.new) }
     {
@@ -115,18 +112,15 @@ fn take_step<N: Nodes>(
     taken: &mut bool,
 ) -> Turn<()>
     requires untaken { taken.old ≡ false }
-    requires stands { Stands walk.now stage.old (N.world nodes.old) }
     requires pair { IsPair walk.now.target }
     requires open { IsTaking stage.old }
-    requires role { IsTrue (N.world nodes.old).founded → HasRole (looked_at stage.old) ways.old.at (N.world nodes.old) }
-    requires mark { N.allows nodes.old walk.now.op mark }
-    ensures stepped { Stepped walk.now stage.new (N.world nodes.old) (N.world nodes.new) }
+    requires mark { MayBear (N.allows nodes.old walk.now.op) mark walk.now.target (Drops walk.now.at) }
+    ensures turned { InSound (N.sound nodes.old) (IsComing walk.now stage.old ways.old.at) (N.world nodes.old) (Turned (N.sound nodes.new) walk.now stage.new (TakesKeys walk.now result) (N.world nodes.old) (N.world nodes.new)) }
     ensures rule { IsTurned result walk.now (N.world nodes.old) (N.world nodes.new) (N.left nodes.old) (N.left nodes.new) stage.old stage.new }
     ensures role { StaysOutside result stage.old stage.new ways.old.at (N.world nodes.old) }
-    ensures keys { TakesKeys walk.now result (N.world nodes.old) (N.world nodes.new) }
-    ensures found { TellsTaken walk.now result taken.new (N.world nodes.old) }
+    ensures found { InSound (N.sound nodes.old) (IsComing walk.now stage.old ways.old.at) (N.world nodes.old) (λ lost. TellsTaken walk.now result taken.new (with_lost lost (N.world nodes.old))) }
     ensures goes { TakeGoesOn result stage.new }
-    ensures bears { BearsTake mark result taken.new (N.marked nodes.old) (N.marked nodes.new) }
+    ensures bears { BearsTake mark result taken.new (λ m. N.goes nodes.old m nodes.new) }
     ensures busy { OnBusy result (IsInTheWay (N.flushes nodes.old) (N.world nodes.old) walk.now.op) }
     ensures cause { CausedTurn result (N.faults nodes.old) (N.faults nodes.new) (N.halted nodes.old) (N.halted nodes.new) }
     ensures follows { Follows result walk.now (N.world nodes.old) stage.old stage.new ways.old ways.new }
@@ -150,17 +144,15 @@ fn take_seen<N: Nodes>(
     taken: &mut bool,
 ) -> Turn<()>
     requires untaken { taken.old ≡ false }
-    requires stands { Stands walk.now stage.old (N.world nodes.old) }
     requires pair { IsPair walk.now.target }
     requires open { IsTaking stage.old }
-    requires mark { N.allows nodes.old walk.now.op mark }
+    requires mark { MayBear (N.allows nodes.old walk.now.op) mark walk.now.target (Drops walk.now.at) }
     requires shown { IfSome (looked_at stage.old) (N.shows nodes.old) }
-    ensures stepped { Stepped walk.now stage.new (N.world nodes.old) (N.world nodes.new) }
+    ensures turned { Turns (N.sound nodes.old) (N.sound nodes.new) walk.now stage.old stage.new (TakesKeys walk.now result) (N.world nodes.old) (N.world nodes.new) }
     ensures rule { IsTurned result walk.now (N.world nodes.old) (N.world nodes.new) (N.left nodes.old) (N.left nodes.new) stage.old stage.new }
-    ensures keys { TakesKeys walk.now result (N.world nodes.old) (N.world nodes.new) }
-    ensures found { TellsTaken walk.now result taken.new (N.world nodes.old) }
+    ensures found { InSound (N.sound nodes.old) (Stands walk.now stage.old) (N.world nodes.old) (λ lost. TellsTaken walk.now result taken.new (with_lost lost (N.world nodes.old))) }
     ensures goes { TakeGoesOn result stage.new }
-    ensures bears { BearsTake mark result taken.new (N.marked nodes.old) (N.marked nodes.new) }
+    ensures bears { BearsTake mark result taken.new (λ m. N.goes nodes.old m nodes.new) }
     ensures busy { OnBusy result (IsInTheWay (N.flushes nodes.old) (N.world nodes.old) walk.now.op) }
     ensures cause { CausedTurn result (N.faults nodes.old) (N.faults nodes.new) (N.halted nodes.old) (N.halted nodes.new) }
     ensures follows { Follows result walk.now (N.world nodes.old) stage.old stage.new ways.old ways.new }
@@ -196,16 +188,14 @@ pub(crate) fn take_held<N: Nodes>(
 ) -> Turn<()>
     requires at { stage.old ≡ Stage.Held page }
     requires untaken { taken.old ≡ false }
-    requires stands { Stands walk.now (Stage.Held page) (N.world nodes.old) }
     requires pair { IsPair walk.now.target }
-    requires mark { N.allows nodes.old walk.now.op mark }
+    requires mark { MayBear (N.allows nodes.old walk.now.op) mark walk.now.target (Drops walk.now.at) }
     requires shown { N.shows nodes.old page }
-    ensures stepped { Stepped walk.now stage.new (N.world nodes.old) (N.world nodes.new) }
+    ensures turned { Turns (N.sound nodes.old) (N.sound nodes.new) walk.now (Stage.Held page) stage.new (TakesKeys walk.now result) (N.world nodes.old) (N.world nodes.new) }
     ensures rule { IsTurned result walk.now (N.world nodes.old) (N.world nodes.new) (N.left nodes.old) (N.left nodes.new) (Stage.Held page) stage.new }
-    ensures keys { TakesKeys walk.now result (N.world nodes.old) (N.world nodes.new) }
-    ensures found { TellsTaken walk.now result taken.new (N.world nodes.old) }
+    ensures found { InSound (N.sound nodes.old) (Stands walk.now (Stage.Held page)) (N.world nodes.old) (λ lost. TellsTaken walk.now result taken.new (with_lost lost (N.world nodes.old))) }
     ensures goes { TakeGoesOn result stage.new }
-    ensures bears { BearsTake mark result taken.new (N.marked nodes.old) (N.marked nodes.new) }
+    ensures bears { BearsTake mark result taken.new (λ m. N.goes nodes.old m nodes.new) }
     ensures busy { OnBusy result (IsInTheWay (N.flushes nodes.old) (N.world nodes.old) walk.now.op) }
     ensures cause { CausedTurn result (N.faults nodes.old) (N.faults nodes.new) (N.halted nodes.old) (N.halted nodes.new) }
     ensures arrives { Arrives result walk.now (N.world nodes.old) (Stage.Held page) stage.new reach.old reach.new }
@@ -236,17 +226,15 @@ fn take_here<N: Nodes>(
 ) -> Turn<()>
     requires at { stage.old ≡ Stage.Held page }
     requires untaken { taken.old ≡ false }
-    requires stands { Stands walk.now (Stage.Held page) (N.world nodes.old) }
     requires pair { IsPair walk.now.target }
-    requires mark { N.allows nodes.old walk.now.op mark }
+    requires mark { MayBear (N.allows nodes.old walk.now.op) mark walk.now.target (Drops walk.now.at) }
     requires seen { page_at (N.world nodes.old) page ≡ Holds node.old }
     requires within { is_past node.old.high walk.now.target ≡ false }
-    ensures stepped { Stepped walk.now stage.new (N.world nodes.old) (N.world nodes.new) }
+    ensures turned { Turns (N.sound nodes.old) (N.sound nodes.new) walk.now (Stage.Held page) stage.new (TakesKeys walk.now result) (N.world nodes.old) (N.world nodes.new) }
     ensures rule { IsTurned result walk.now (N.world nodes.old) (N.world nodes.new) (N.left nodes.old) (N.left nodes.new) (Stage.Held page) stage.new }
-    ensures keys { TakesKeys walk.now result (N.world nodes.old) (N.world nodes.new) }
-    ensures found { TellsTaken walk.now result taken.new (N.world nodes.old) }
+    ensures found { InSound (N.sound nodes.old) (Stands walk.now (Stage.Held page)) (N.world nodes.old) (λ lost. TellsTaken walk.now result taken.new (with_lost lost (N.world nodes.old))) }
     ensures goes { TakeGoesOn result stage.new }
-    ensures bears { BearsTake mark result taken.new (N.marked nodes.old) (N.marked nodes.new) }
+    ensures bears { BearsTake mark result taken.new (λ m. N.goes nodes.old m nodes.new) }
     ensures busy { OnBusy result (IsInTheWay (N.flushes nodes.old) (N.world nodes.old) walk.now.op) }
     ensures cause { CausedTurn result (N.faults nodes.old) (N.faults nodes.new) (N.halted nodes.old) (N.halted nodes.new) }
 {

@@ -1,8 +1,6 @@
-//! An index in memory for tests, whose pairs go by number. Its pages count as damaged, so that an
-//! operation may begin on them at any time.
+//! An index in memory for tests, whose pairs go by number.
 
-ghost use Rattle.std.specs.Prelude.{◌≡◌, ◌≤◌, false, IfOk};
-ghost use Rattle.ct_node.specs.MemWorlds.{world_of};
+ghost use Rattle.std.specs.Prelude.{◌≤◌, IfOk};
 ghost use Rattle.ct_tree.specs.Schedules.{IsReady};
 ghost use Rattle.ct_tree.specs.Answers.{IsPair, IsSearchingBy};
 
@@ -10,7 +8,7 @@ use super::*;
 use ct_disk::{StepFault, Turn};
 use ct_items::NoMemory;
 use ct_key::KeyBuf;
-use ct_node::{Mark, MemNodes, Node, Pair, Root, Target};
+use ct_node::{Mark, MemNodes, Pair, Root, Target};
 use std::alloc::{AllocFailed, Global};
 
 /// The index of each such tree.
@@ -66,14 +64,12 @@ pub(crate) struct TestTree {
     shape: Shape,
     pub nodes: MemNodes,
     last_op: u64,
-    ghost damaged: { (world_of nodes).founded ≡ false },
 }
 
 impl TestTree {
     /// A tree without pairs.
     pub(crate) fn new(alloc: Global, shape: Shape) -> Result<TestTree, NoMemory> {
-        let mut nodes = MemNodes::new(alloc, shape.key_len)?;
-        nodes.damage(u64::MAX, &Node::new(0, 0, true, shape.key_len));
+        let nodes = MemNodes::new(alloc, shape.key_len)?;
         Ok(TestTree {
             alloc,
             shape,

@@ -2,7 +2,6 @@
 
 ghost use Rattle.std.specs.Prelude.{◌≡◌, ◌≤◌, ◌<◌, map, length, IfOk};
 ghost use Rattle.std.specs.List.{All, range_with_len};
-ghost use Rattle.ct_node.specs.MemWorlds.{world_of, new_world};
 ghost use Rattle.ct_tree.specs.Schedules.{IsNew, op_of};
 
 use super::*;
@@ -153,7 +152,6 @@ fn run_on(
     requires places { All (λ place. place < length programs.old) schedule.now }
     requires numbers { map op_of programs.old ≡ range_with_len 0 (length programs.old) }
     requires new { All (IsNew 128) programs.old }
-    requires pages { world_of nodes.old ≡ new_world 128 }
 {
     run(alloc, programs, schedule, nodes)
 }
@@ -177,9 +175,7 @@ fn levels(nodes: &mut MemNodes) -> usize {
 }
 
 /// How many pairs stand in the leaves, from the first one on by right links.
-pub(crate) fn pairs(nodes: &mut MemNodes) -> usize
-    ensures { world_of nodes.new ≡ world_of nodes.old }
-{
+pub(crate) fn pairs(nodes: &mut MemNodes) -> usize {
     let mut page = 1;
     let mut count: usize = 0;
     for _leaf in 0..1000 {

@@ -408,7 +408,6 @@ module _ (op page right : ℕ) (node : NodeValue) (w : World) (apart : IsApart w
 
   pub IsStep-cut : IsNode node → IsStep op w (edited op page (lower_half right node) w)
   IsStep-cut sound = record {
-    founded = refl;
     apart = IsApart-edited op page (lower_half right node) w apart;
     at = KeepsAt-cut;
     levels = KeepsLevels-cut;

@@ -75,7 +75,6 @@ KeepsLinks-alike op page node new w reached alike first stays leads onward = rec
 -- an edit of a page that no other has
 LeavesLinks-edited : (op page : ℕ) (new : NodeValue) (w : World) → IsApart w → KeepsLinks w (edited op page new w) → KeepsDefinitions w (edited op page new w) → ((other : ℕ) (node : NodeValue) → (other ≡ op → ⊥) → has_latch other page w ≡ true → IsReached w page node → ⊥) → ((other : ℕ) → (other ≡ op → ⊥) → has_fresh other page w ≡ true → ⊥) → LeavesLinks op w (edited op page new w)
 LeavesLinks-edited op page new w apart links definitions not_latched not_theirs = record {
-  founded = refl;
   apart = IsApart-edited op page new w apart;
   links = links;
   latch = λ other q differ. refl;

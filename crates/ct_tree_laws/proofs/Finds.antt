@@ -18,7 +18,7 @@ use Rattle.ct_node.proofs.Orders.{below, below-trans}
 use Rattle.ct_tree_laws.specs.declared.walk.Walk.{Walk}
 use Rattle.ct_tree_laws.specs.declared.walk.Stage.TheVariants as stage
 use Rattle.ct_tree_laws.specs.Trees.{Tree, IsOf, IsTree, HasPassed, IsAmong, Chain, pairs_in_page, pairs_at, joined}
-use Rattle.ct_tree_laws.specs.Stands.{StandsIn}
+use Rattle.ct_tree_laws.specs.Stands.{Stands}
 use Rattle.ct_tree_laws.proofs.Chains.{LowLe, IsUnder, IsOver, one_node, link_to, below_le, Around, around}
 use Rattle.ct_tree_laws.proofs.Edits.{joined_around}
 use Rattle.ct_tree_laws.proofs.Keys.{leaf_at, one_tree}
@@ -91,7 +91,7 @@ none_over [] all = refl
 none_over (pair ∷ pairs) all = absurd (All-head (IsOver None) pair pairs all)
 
 -- what the whole tree gives a search is what its leaf and those behind it give
-module _ (walk : Walk) (above : Bool) (page : ℕ) (node : NodeValue) (w : World) (is : page_at w page ≡ Holds node) (here : StandsIn walk (stage.Shared page above) w) (leaves : List ℕ) (tree : IsTree w walk.at here.tree leaves) where
+module _ (walk : Walk) (above : Bool) (page : ℕ) (node : NodeValue) (w : World) (is : page_at w page ≡ Holds node) (here : Stands walk (stage.Shared page above) w) (leaves : List ℕ) (tree : IsTree w walk.at here.tree leaves) where
   same_node : here.place.1.1.node ≡ node
   same_node = one_node w page node here.place.1.1.node is here.place.1.1.is
 
@@ -125,15 +125,15 @@ module _ (walk : Walk) (above : Bool) (page : ℕ) (node : NodeValue) (w : World
       ∙ ap (find (λ other. not (is_ahead above walk.target other))) behind
 
 -- the pairs of the search's own index
-own_keys : (walk : Walk) (above : Bool) (page : ℕ) (w : World) (here : StandsIn walk (stage.Shared page above) w) (keys : List Pair) → Chain w walk.at keys → (leaves : List ℕ) × IsTree w walk.at here.tree leaves × (joined w leaves ≡ keys)
+own_keys : (walk : Walk) (above : Bool) (page : ℕ) (w : World) (here : Stands walk (stage.Shared page above) w) (keys : List Pair) → Chain w walk.at keys → (leaves : List ℕ) × IsTree w walk.at here.tree leaves × (joined w leaves ≡ keys)
 own_keys walk above page w here keys chain = (chain.leaves, subst (λ t. IsTree w walk.at t chain.leaves) (one_tree w walk.at here.tree chain.tree here.leaves chain.leaves here.is chain.is) chain.is, chain.keys_are)
 
-pub search_some : (walk : Walk) (above : Bool) (page : ℕ) (node : NodeValue) (pair : Pair) (w : World) → page_at w page ≡ Holds node → slice_get (pairs_in node) (prefix_len (is_ahead above walk.target) (pairs_in node)) ≡ Some pair → StandsIn walk (stage.Shared page above) w → (keys : List Pair) → Chain w walk.at keys → find (λ other. not (is_ahead above walk.target other)) keys ≡ Some pair
+pub search_some : (walk : Walk) (above : Bool) (page : ℕ) (node : NodeValue) (pair : Pair) (w : World) → page_at w page ≡ Holds node → slice_get (pairs_in node) (prefix_len (is_ahead above walk.target) (pairs_in node)) ≡ Some pair → Stands walk (stage.Shared page above) w → (keys : List Pair) → Chain w walk.at keys → find (λ other. not (is_ahead above walk.target other)) keys ≡ Some pair
 search_some walk above page node pair w is at_place here keys chain =
     let own = own_keys walk above page w here keys chain in
     ap (find (λ other. not (is_ahead above walk.target other))) (sym own.2) ∙ found_some walk above page node w is here own.0 own.1 pair at_place
 
-pub search_none : (walk : Walk) (above : Bool) (page : ℕ) (node : NodeValue) (w : World) → page_at w page ≡ Holds node → AllPass (is_ahead above walk.target) (pairs_in node) → ((q : ℕ) → next_place node Last ≡ place.Right q → ⊥) → StandsIn walk (stage.Shared page above) w → (keys : List Pair) → Chain w walk.at keys → find (λ other. not (is_ahead above walk.target other)) keys ≡ None
+pub search_none : (walk : Walk) (above : Bool) (page : ℕ) (node : NodeValue) (w : World) → page_at w page ≡ Holds node → AllPass (is_ahead above walk.target) (pairs_in node) → ((q : ℕ) → next_place node Last ≡ place.Right q → ⊥) → Stands walk (stage.Shared page above) w → (keys : List Pair) → Chain w walk.at keys → find (λ other. not (is_ahead above walk.target other)) keys ≡ None
 search_none walk above page node w is clear no_right here keys chain =
     let own = own_keys walk above page w here keys chain in
     ap (find (λ other. not (is_ahead above walk.target other))) (sym own.2) ∙ found_none walk above page node w is here own.0 own.1 clear (by_high node.high refl)

@@ -1,6 +1,5 @@
 -- No half split is reached by a link.
 use Rattle.std.proofs.Common.{◌≡◌, ℕ, Bool, true, false, List, sym, ap, ◌∙◌, subst, Some}
-use Rattle.std.specs.Prelude.{IsTrue}
 use Rattle.std.specs.List.{All}
 use Rattle.std.proofs.lemmas.Bool.{false≢true}
 use Rattle.std.proofs.lemmas.List.Elements.{All-cons, All-weaker}
@@ -19,9 +18,9 @@ use Rattle.ct_tree_laws.proofs.Pages.{is_fresh_from}
 use Rattle.ct_tree_laws.proofs.Keys.{leaf_at}
 use Rattle.ct_tree_laws.proofs.PostingCrowns.{raises_root}
 
-pub half_split : (walk : Walk) (page right : ℕ) (w : World) → IsTrue w.founded → Stands walk (stage.Cut page right) w → (node : NodeValue) × (page_at w page ≡ Holds node) × (has_own walk.op page w ≡ true) × (page_at w right ≡ Holds (upper_half node)) × (is_fresh right w ≡ true)
-half_split walk page right w founded stands =
-    let here = stands founded in
+pub half_split : (walk : Walk) (page right : ℕ) (w : World) → Stands walk (stage.Cut page right) w → (node : NodeValue) × (page_at w page ≡ Holds node) × (has_own walk.op page w ≡ true) × (page_at w right ≡ Holds (upper_half node)) × (is_fresh right w ≡ true)
+half_split walk page right w stands =
+    let here = stands in
     (here.place.1.0, here.place.1.1.is, here.place.1.1.owned, here.place.1.2, is_fresh_from walk.op right w here.place.2)
 
 pub not_a_leaf : (w : World) (at : Root) (t : Tree) (leaves : List ℕ) (right : ℕ) → IsTree w at t leaves → is_fresh right w ≡ true → IsAmong right leaves → ⊥
@@ -31,15 +30,15 @@ pub not_linked : (w : World) (at : Root) (t : Tree) (leaves : List ℕ) (right p
 not_linked w at t leaves right page node link tree fresh is of linked link_is one =
     false≢true (sym ((tree.roles page node is of linked).right link link_is).linked ∙ ap (λ p. is_fresh p w) one ∙ fresh)
 
-pub half_above : (walk : Walk) (s : Separator) (page right : ℕ) (w : World) → IsTrue w.founded → Stands walk (stage.Post s (rise.Cut page right)) w → (node : NodeValue) × (page_at w page ≡ Holds node) × (has_own walk.op page w ≡ true) × (page_at w right ≡ Holds (upper_half node)) × (is_fresh right w ≡ true)
-half_above walk s page right w founded stands =
-    let here = stands founded in
+pub half_above : (walk : Walk) (s : Separator) (page right : ℕ) (w : World) → Stands walk (stage.Post s (rise.Cut page right)) w → (node : NodeValue) × (page_at w page ≡ Holds node) × (has_own walk.op page w ≡ true) × (page_at w right ≡ Holds (upper_half node)) × (is_fresh right w ≡ true)
+half_above walk s page right w stands =
+    let here = stands in
     let node = here.place.1.1 in
     (node.0, node.1.0.is, node.1.0.owned, node.2, is_fresh_from walk.op right w here.place.1.2)
 
-pub new_root : (walk : Walk) (s : Separator) (root : ℕ) (w : World) → IsTrue w.founded → Stands walk (stage.Post s (rise.Crowned root)) w → (node : NodeValue) × (page_at w root ≡ Holds node) × (node.leaf ≡ false) × (has_own walk.op walk.at.page w ≡ true) × (is_fresh root w ≡ true)
-new_root walk s root w founded stands =
-    let here = stands founded in
+pub new_root : (walk : Walk) (s : Separator) (root : ℕ) (w : World) → Stands walk (stage.Post s (rise.Crowned root)) w → (node : NodeValue) × (page_at w root ≡ Holds node) × (node.leaf ≡ false) × (has_own walk.op walk.at.page w ≡ true) × (is_fresh root w ≡ true)
+new_root walk s root w stands =
+    let here = stands in
     let node = here.place.1.3 in
     (node.0, node.1, node.2.inner, (raises_root walk s root w here).owned, is_fresh_from walk.op root w here.place.1.2)
 

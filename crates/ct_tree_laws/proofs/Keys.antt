@@ -1,6 +1,6 @@
 -- What a step does to the pairs of each index.
 use Rattle.std.proofs.Common.{◌≡◌, ℕ, ◌≤◌, Bool, true, false, ◌||◌, cond, List, [], ◌∷◌, ◌++◌, length, refl, sym, ap, ◌∙◌, subst, inl, inr, ⊎_elim, Option, Some, None, eqb}
-use Rattle.std.specs.Prelude.{IsTrue, if◌then◌else◌, slice_get}
+use Rattle.std.specs.Prelude.{if◌then◌else◌, slice_get}
 use Rattle.std.specs.List.{All, list_any}
 use Rattle.std.proofs.lemmas.Bool.{cases_Bool, false≢true, and_parts, and_from, eqb-true, eq-eqb, false_from_ne_true, cond-true, cond-false}
 use Rattle.std.proofs.lemmas.List.Folds.{list_any-append, list_any_none}
@@ -31,13 +31,13 @@ Chain-same w now at keys links chain same = record {
   keys_are = joined-same w now chain.leaves same ∙ chain.keys_are;
 }
 
-pub KeepsKeys-latches : (op : ℕ) (w now : World) → (IsTrue w.founded → IsApart w) → ChangesLatches op w now → KeepsKeys w now
-KeepsKeys-latches op w now apart changes founded at keys chain =
-    Chain-same w now at keys (LeavesLinks-latches op w now (apart founded) changes).links chain (λ page among. ap (λ pages. page_at (record w { pages = pages }) page) changes.pages)
+pub KeepsKeys-latches : (op : ℕ) (w now : World) → (IsApart w) → ChangesLatches op w now → KeepsKeys w now
+KeepsKeys-latches op w now apart changes at keys chain =
+    Chain-same w now at keys (LeavesLinks-latches op w now apart changes).links chain (λ page among. ap (λ pages. page_at (record w { pages = pages }) page) changes.pages)
 
-pub KeepsKeys-with_fresh : (op : ℕ) (w : World) → (IsTrue w.founded → IsApart w) → KeepsKeys w (with_fresh op w)
-KeepsKeys-with_fresh op w apart founded at keys chain =
-    Chain-same w (with_fresh op w) at keys (LeavesLinks-with_fresh op w (apart founded)).links chain (λ page among. page_at-with_fresh op w page)
+pub KeepsKeys-with_fresh : (op : ℕ) (w : World) → (IsApart w) → KeepsKeys w (with_fresh op w)
+KeepsKeys-with_fresh op w apart at keys chain =
+    Chain-same w (with_fresh op w) at keys (LeavesLinks-with_fresh op w apart).links chain (λ page among. page_at-with_fresh op w page)
 
 -- a leaf in the chain is a node of the tree
 among_at : (w : World) (t : Tree) (link : _) (pages : List ℕ) (page : ℕ) → Linked w t link pages → IsAmong page pages → (low : Option Pair) × IsAt w t true low page
@@ -48,18 +48,18 @@ among_at w t link (first ∷ pages) page linked (inr later) = among_at w t _ pag
 pub leaf_at : (w : World) (at : Root) (t : Tree) (leaves : List ℕ) → IsTree w at t leaves → (page : ℕ) → IsAmong page leaves → (low : Option Pair) × IsAt w t true low page
 leaf_at w at t leaves tree page among = among_at w t (link_to None t.first) leaves page tree.linked among
 
-pub KeepsKeys-right : (op page : ℕ) (new : NodeValue) (w : World) → (IsTrue w.founded → IsApart w) → (IsTrue w.founded → WritesRight op page new w) → KeepsKeys w (edited op page new w)
-KeepsKeys-right op page new w apart writes founded at keys chain =
-    let move = writes founded in
-    Chain-same w (edited op page new w) at keys (LeavesLinks-right op page new w (apart founded) move).links chain
+pub KeepsKeys-right : (op page : ℕ) (new : NodeValue) (w : World) → (IsApart w) → (WritesRight op page new w) → KeepsKeys w (edited op page new w)
+KeepsKeys-right op page new w apart writes at keys chain =
+    let move = writes in
+    Chain-same w (edited op page new w) at keys (LeavesLinks-right op page new w apart move).links chain
     (λ q among. page_at-edited_other op page new w q (λ one.
     let leaf = (leaf_at w at chain.tree chain.leaves chain.is q among).1 in
     let no : Blank ≡ Holds leaf.node = sym move.blank ∙ sym (ap (page_at w) one) ∙ leaf.is in
     absurd (cc)))
 
-pub KeepsKeys-cut : (op page right : ℕ) (node : NodeValue) (w : World) → (IsTrue w.founded → IsApart w × IsHeld op page node w × (2 ≤ length node.entries) × (has_fresh op right w ≡ true) × (page_at w right ≡ Holds (upper_half node))) → KeepsKeys w (edited op page (lower_half right node) w)
-KeepsKeys-cut op page right node w cuts founded at keys chain =
-    let move = cuts founded in
+pub KeepsKeys-cut : (op page right : ℕ) (node : NodeValue) (w : World) → (IsApart w × IsHeld op page node w × (2 ≤ length node.entries) × (has_fresh op right w ≡ true) × (page_at w right ≡ Holds (upper_half node))) → KeepsKeys w (edited op page (lower_half right node) w)
+KeepsKeys-cut op page right node w cuts at keys chain =
+    let move = cuts in
     record {
       tree = chain.tree;
       leaves = inserted page right chain.leaves;

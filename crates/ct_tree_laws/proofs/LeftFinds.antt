@@ -21,7 +21,7 @@ use Rattle.ct_tree_laws.specs.declared.walk.Stage.TheVariants as stage
 use Rattle.ct_tree_laws.specs.declared.left.Way.TheVariants as way
 use Rattle.ct_tree_laws.specs.Trees.{Tree, IsTree, IsLeaf, IsAmong, Link, Linked, link_by, link_in, Chain, pairs_in_page, pairs_at, joined}
 use Rattle.ct_tree_laws.specs.Left.{NoneAhead, IsClearLeft}
-use Rattle.ct_tree_laws.specs.Stands.{StandsIn}
+use Rattle.ct_tree_laws.specs.Stands.{Stands}
 use Rattle.ct_tree_laws.proofs.Chains.{IsUnder, Roles, none_linked, lows_from, link_to, Around, around}
 use Rattle.ct_tree_laws.proofs.Edits.{joined_around}
 use Rattle.ct_tree_laws.proofs.Keys.{leaf_at, one_tree}
@@ -101,30 +101,30 @@ module _ (w : World) (at : Root) (t : Tree) (leaves : List ℕ) (tree : IsTree w
       ∙ ap (λ pairs. find (is_ahead or_at target) (reverse pairs)) before
 
 -- the pairs of the search's own index
-own_keys : (walk : Walk) (from : Stage) (w : World) (here : StandsIn walk from w) (keys : List Pair) → Chain w walk.at keys → (leaves : List ℕ) × IsTree w walk.at here.tree leaves × (joined w leaves ≡ keys)
+own_keys : (walk : Walk) (from : Stage) (w : World) (here : Stands walk from w) (keys : List Pair) → Chain w walk.at keys → (leaves : List ℕ) × IsTree w walk.at here.tree leaves × (joined w leaves ≡ keys)
 own_keys walk from w here keys chain = (chain.leaves, subst (λ t. IsTree w walk.at t chain.leaves) (one_tree w walk.at here.tree chain.tree here.leaves chain.leaves here.is chain.is) chain.is, chain.keys_are)
 
 -- what is found in the leaf of the target
-pub left_first_some : (walk : Walk) (or_at : Bool) (page : ℕ) (node : NodeValue) (k : ℕ) (pair : Pair) (w : World) → page_at w page ≡ Holds node → ((q : ℕ) → next_place node walk.target ≡ place.Right q → ⊥) → prefix_len (is_ahead or_at walk.target) (pairs_in node) ≡ suc k → slice_get (pairs_in node) k ≡ Some pair → StandsIn walk (stage.SharedLeft page) w → (keys : List Pair) → Chain w walk.at keys → find (is_ahead or_at walk.target) (reverse keys) ≡ Some pair
+pub left_first_some : (walk : Walk) (or_at : Bool) (page : ℕ) (node : NodeValue) (k : ℕ) (pair : Pair) (w : World) → page_at w page ≡ Holds node → ((q : ℕ) → next_place node walk.target ≡ place.Right q → ⊥) → prefix_len (is_ahead or_at walk.target) (pairs_in node) ≡ suc k → slice_get (pairs_in node) k ≡ Some pair → Stands walk (stage.SharedLeft page) w → (keys : List Pair) → Chain w walk.at keys → find (is_ahead or_at walk.target) (reverse keys) ≡ Some pair
 left_first_some walk or_at page node k pair w is no_right place there here keys chain =
     let own = own_keys walk (stage.SharedLeft page) w here keys chain in
     let seen = first_seen walk page node w is here in
     ap (λ pairs. find (is_ahead or_at walk.target) (reverse pairs)) (sym own.2) ∙ found_some w walk.at here.tree own.0 own.1 walk.op or_at walk.target page node (leaf_of_seen w here.tree walk.target page node seen.0 seen.1) (clear_behind_first w here.tree walk.op or_at walk.target node (within_of node walk.target no_right)) k pair place there
 
-pub left_first_none : (walk : Walk) (or_at : Bool) (page : ℕ) (node : NodeValue) (w : World) → page_at w page ≡ Holds node → ((q : ℕ) → next_place node walk.target ≡ place.Right q → ⊥) → prefix_len (is_ahead or_at walk.target) (pairs_in node) ≡ 0 → node.low ≡ None → StandsIn walk (stage.SharedLeft page) w → (keys : List Pair) → Chain w walk.at keys → find (is_ahead or_at walk.target) (reverse keys) ≡ None
+pub left_first_none : (walk : Walk) (or_at : Bool) (page : ℕ) (node : NodeValue) (w : World) → page_at w page ≡ Holds node → ((q : ℕ) → next_place node walk.target ≡ place.Right q → ⊥) → prefix_len (is_ahead or_at walk.target) (pairs_in node) ≡ 0 → node.low ≡ None → Stands walk (stage.SharedLeft page) w → (keys : List Pair) → Chain w walk.at keys → find (is_ahead or_at walk.target) (reverse keys) ≡ None
 left_first_none walk or_at page node w is no_right place first here keys chain =
     let own = own_keys walk (stage.SharedLeft page) w here keys chain in
     let seen = first_seen walk page node w is here in
     ap (λ pairs. find (is_ahead or_at walk.target) (reverse pairs)) (sym own.2) ∙ found_none w walk.at here.tree own.0 own.1 walk.op or_at walk.target page node (leaf_of_seen w here.tree walk.target page node seen.0 seen.1) (clear_behind_first w here.tree walk.op or_at walk.target node (within_of node walk.target no_right)) place first
 
 -- what is found in a leaf further to the left
-pub left_next_some : (walk : Walk) (low : Pair) (or_at : Bool) (page : ℕ) (node : NodeValue) (k : ℕ) (pair : Pair) (w : World) → page_at w page ≡ Holds node → ((q : ℕ) → next_place node (Before low) ≡ place.Right q → ⊥) → prefix_len (is_ahead or_at walk.target) (pairs_in node) ≡ suc k → slice_get (pairs_in node) k ≡ Some pair → StandsIn walk (stage.Left low or_at (way.Shared page)) w → (keys : List Pair) → Chain w walk.at keys → find (is_ahead or_at walk.target) (reverse keys) ≡ Some pair
+pub left_next_some : (walk : Walk) (low : Pair) (or_at : Bool) (page : ℕ) (node : NodeValue) (k : ℕ) (pair : Pair) (w : World) → page_at w page ≡ Holds node → ((q : ℕ) → next_place node (Before low) ≡ place.Right q → ⊥) → prefix_len (is_ahead or_at walk.target) (pairs_in node) ≡ suc k → slice_get (pairs_in node) k ≡ Some pair → Stands walk (stage.Left low or_at (way.Shared page)) w → (keys : List Pair) → Chain w walk.at keys → find (is_ahead or_at walk.target) (reverse keys) ≡ Some pair
 left_next_some walk low or_at page node k pair w is no_right place there here keys chain =
     let own = own_keys walk (stage.Left low or_at (way.Shared page)) w here keys chain in
     let seen = next_seen walk low or_at page node w is here in
     ap (λ pairs. find (is_ahead or_at walk.target) (reverse pairs)) (sym own.2) ∙ found_some w walk.at here.tree own.0 own.1 walk.op or_at walk.target page node (leaf_of_seen w here.tree (Before low) page node seen.0 seen.1) (clear_behind_next w here.tree walk.op or_at walk.target low node here.is.roles here.place.1 (within_of node (Before low) no_right)) k pair place there
 
-pub left_next_none : (walk : Walk) (low : Pair) (or_at : Bool) (page : ℕ) (node : NodeValue) (w : World) → page_at w page ≡ Holds node → ((q : ℕ) → next_place node (Before low) ≡ place.Right q → ⊥) → prefix_len (is_ahead or_at walk.target) (pairs_in node) ≡ 0 → node.low ≡ None → StandsIn walk (stage.Left low or_at (way.Shared page)) w → (keys : List Pair) → Chain w walk.at keys → find (is_ahead or_at walk.target) (reverse keys) ≡ None
+pub left_next_none : (walk : Walk) (low : Pair) (or_at : Bool) (page : ℕ) (node : NodeValue) (w : World) → page_at w page ≡ Holds node → ((q : ℕ) → next_place node (Before low) ≡ place.Right q → ⊥) → prefix_len (is_ahead or_at walk.target) (pairs_in node) ≡ 0 → node.low ≡ None → Stands walk (stage.Left low or_at (way.Shared page)) w → (keys : List Pair) → Chain w walk.at keys → find (is_ahead or_at walk.target) (reverse keys) ≡ None
 left_next_none walk low or_at page node w is no_right place first here keys chain =
     let own = own_keys walk (stage.Left low or_at (way.Shared page)) w here keys chain in
     let seen = next_seen walk low or_at page node w is here in

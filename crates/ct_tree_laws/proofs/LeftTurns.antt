@@ -20,13 +20,13 @@ use Rattle.ct_tree_laws.specs.declared.walk.Stage.TheVariants as stage
 use Rattle.ct_tree_laws.specs.declared.left.Way.TheVariants as way
 use Rattle.ct_tree_laws.specs.Trees.{Tree, IsTree, IsLeaf, IsNear, IsAmong, Link, Linked, link_by, link_in, Rises}
 use Rattle.ct_tree_laws.specs.Left.{IsAboveTarget, EndsAbove, NoneAhead, IsClearLeft, HasPassedLeft}
-use Rattle.ct_tree_laws.specs.Stands.{StandsIn, Stands, Stepped}
+use Rattle.ct_tree_laws.specs.Stands.{Stands, Stepped}
 use Rattle.ct_tree_laws.proofs.Taking.{is_of_parts, ChangesLatches-free_all, has_latch-with_share_new}
 use Rattle.ct_tree_laws.proofs.Holders.{list_any-filter}
 use Rattle.ct_tree_laws.proofs.Chains.{Roles, one_node, none_linked, lows_from, link_to, below_le}
 use Rattle.ct_tree_laws.proofs.Steps.{IsStep-latches}
 use Rattle.ct_tree_laws.proofs.Walking.{IsSeen, IsLast, seen_near, seen_leaf, near_right, near_down, last_here, here_or_end, next_past, next_leaf}
-use Rattle.ct_tree_laws.proofs.Turns.{at_stage, stepped_same, not_founded}
+use Rattle.ct_tree_laws.proofs.Turns.{at_stage, stepped_same}
 use Rattle.ct_tree_laws.proofs.PutTurns.{stepped_by, freed, free_step}
 use Rattle.ct_tree_laws.proofs.LeftLists.{at_or_below, none_from_place}
 use Rattle.ct_tree_laws.proofs.SearchTurns.{EndsBefore, latch_kept, share_step, all_freed, all_none}
@@ -116,17 +116,17 @@ pub leaf_of_seen : (w : World) (t : Tree) (target : Target) (page : ℕ) (node :
 leaf_of_seen w t target page node seen leaf = record { is = seen.is; of = seen.of; leaf = leaf; linked = seen.linked }
 
 -- the leaf of the target, as the search sees it
-pub first_seen : (walk : Walk) (page : ℕ) (node : NodeValue) (w : World) → page_at w page ≡ Holds node → (here : StandsIn walk (stage.SharedLeft page) w) → IsSeen w here.tree walk.target page node × (node.leaf ≡ true)
+pub first_seen : (walk : Walk) (page : ℕ) (node : NodeValue) (w : World) → page_at w page ≡ Holds node → (here : Stands walk (stage.SharedLeft page) w) → IsSeen w here.tree walk.target page node × (node.leaf ≡ true)
 first_seen walk page node w is here = seen_leaf w walk.at here.tree here.leaves walk.target page node here.is here.place.1 is
 
 -- a leaf further to the left, as the search sees it
-pub next_seen : (walk : Walk) (low : Pair) (or_at : Bool) (page : ℕ) (node : NodeValue) (w : World) → page_at w page ≡ Holds node → (here : StandsIn walk (stage.Left low or_at (way.Shared page)) w) → IsSeen w here.tree (Before low) page node × (node.leaf ≡ true)
+pub next_seen : (walk : Walk) (low : Pair) (or_at : Bool) (page : ℕ) (node : NodeValue) (w : World) → page_at w page ≡ Holds node → (here : Stands walk (stage.Left low or_at (way.Shared page)) w) → IsSeen w here.tree (Before low) page node × (node.leaf ≡ true)
 next_seen walk low or_at page node w is here = seen_leaf w walk.at here.tree here.leaves (Before low) page node here.is here.place.2.0 is
 
 -- the leaf of the target is shared
 pub left_share_first : (walk : Walk) (page : ℕ) (w now : World) → Stands walk (stage.Leaf page) w → find (bars page walk.op false) w.holds ≡ None → now ≡ with_holds (with_share page walk.op w.holds) w → Stepped walk (stage.SharedLeft page) w now
 left_share_first walk page w now stands free is = subst (Stepped walk (stage.SharedLeft page) w) (sym is)
-    (stepped_by walk (stage.Leaf page) (stage.SharedLeft page) w (with_holds (with_share page walk.op w.holds) w) refl stands (λ here. share_step walk page w free here.apart)
+    (stepped_by walk (stage.Leaf page) (stage.SharedLeft page) w (with_holds (with_share page walk.op w.holds) w) stands (λ here. share_step walk page w free here.apart)
     (λ here.
     let near = here.place.1 in
     (here.place.0, (near.0, (share_step walk page w free here.apart).at here.tree true near.0 page near.1, near.2), has_latch-with_share_new page walk.op w)))
@@ -138,7 +138,7 @@ share_passed_left w t op page or_at target low passed x u leaf ends =
 -- the next leaf is shared too
 pub left_share_next : (walk : Walk) (low : Pair) (or_at : Bool) (page : ℕ) (w now : World) → Stands walk (stage.Left low or_at (way.Leaf page)) w → find (bars page walk.op false) w.holds ≡ None → now ≡ with_holds (with_share page walk.op w.holds) w → Stepped walk (stage.Left low or_at (way.Shared page)) w now
 left_share_next walk low or_at page w now stands free is = subst (Stepped walk (stage.Left low or_at (way.Shared page)) w) (sym is)
-    (stepped_by walk (stage.Left low or_at (way.Leaf page)) (stage.Left low or_at (way.Shared page)) w (with_holds (with_share page walk.op w.holds) w) refl stands (λ here. share_step walk page w free here.apart)
+    (stepped_by walk (stage.Left low or_at (way.Leaf page)) (stage.Left low or_at (way.Shared page)) w (with_holds (with_share page walk.op w.holds) w) stands (λ here. share_step walk page w free here.apart)
     (λ here.
     let near = here.place.2 in
     (here.place.0, share_passed_left w here.tree walk.op page or_at walk.target low here.place.1, ((near.0, (share_step walk page w free here.apart).at here.tree true near.0 page near.1, near.2), has_latch-with_share_new page walk.op w))))
@@ -146,7 +146,7 @@ left_share_next walk low or_at page w now stands free is = subst (Stepped walk (
 -- the target's leaf was cut before it was shared: it is given back, and the walk goes on
 pub left_first_past : (walk : Walk) (page : ℕ) (node : NodeValue) (q : ℕ) (w mid now : World) → Stands walk (stage.SharedLeft page) w → page_at w page ≡ Holds node → mid ≡ w → now ≡ all_freed walk.op mid → place.Right q ≡ next_place node walk.target → Stepped walk (stage.Down q) w now
 left_first_past walk page node q w mid now stands is same gives on = subst (Stepped walk (stage.Down q) w) (sym (gives ∙ ap (all_freed walk.op) same))
-    (stepped_by walk (stage.SharedLeft page) (stage.Down q) w (all_freed walk.op w) refl stands (λ here. IsStep-latches walk.op w (all_freed walk.op w) here.apart (ChangesLatches-free_all walk.op w))
+    (stepped_by walk (stage.SharedLeft page) (stage.Down q) w (all_freed walk.op w) stands (λ here. IsStep-latches walk.op w (all_freed walk.op w) here.apart (ChangesLatches-free_all walk.op w))
     (λ here.
     let near = near_right w here.tree walk.target page node q (first_seen walk page node w is here).0 (sym on) in
     let step = IsStep-latches walk.op w (all_freed walk.op w) here.apart (ChangesLatches-free_all walk.op w) in
@@ -154,8 +154,8 @@ left_first_past walk page node q w mid now stands is same gives on = subst (Step
 
 -- the target's leaf has nothing: the search goes on to the left, and keeps it
 pub left_first_on : (walk : Walk) (or_at : Bool) (page : ℕ) (node : NodeValue) (low : Pair) (w now : World) → Stands walk (stage.SharedLeft page) w → page_at w page ≡ Holds node → now ≡ w → ((q : ℕ) → next_place node walk.target ≡ place.Right q → ⊥) → prefix_len (is_ahead or_at walk.target) (pairs_in node) ≡ 0 → node.low ≡ Some low → Stepped walk (stage.Left low or_at way.Start) w now
-left_first_on walk or_at page node low w now stands is same no_right none begins = stepped_same walk (stage.Left low or_at way.Start) w now same (λ founded.
-    let here = stands founded in
+left_first_on walk or_at page node low w now stands is same no_right none begins = stepped_same walk (stage.Left low or_at way.Start) w now same (
+    let here = stands in
     let seen = first_seen walk page node w is here in
     let within = within_of node walk.target no_right in
     let clear = none_from_place or_at walk.target (pairs_in node) seen.0.role.node_is.order none in
@@ -181,7 +181,7 @@ freed_passed w t op page node or_at target low is past passed x u leaf ends =
 
 pub left_next_past : (walk : Walk) (low : Pair) (or_at : Bool) (page : ℕ) (node : NodeValue) (q : ℕ) (w mid now : World) → Stands walk (stage.Left low or_at (way.Shared page)) w → page_at w page ≡ Holds node → mid ≡ w → now ≡ freed page walk.op mid → place.Right q ≡ next_place node (Before low) → Stepped walk (stage.Left low or_at (way.Down q)) w now
 left_next_past walk low or_at page node q w mid now stands is same gives on = subst (Stepped walk (stage.Left low or_at (way.Down q)) w) (sym (gives ∙ ap (freed page walk.op) same))
-    (stepped_by walk (stage.Left low or_at (way.Shared page)) (stage.Left low or_at (way.Down q)) w (freed page walk.op w) refl stands (λ here. free_step page walk.op w here.apart)
+    (stepped_by walk (stage.Left low or_at (way.Shared page)) (stage.Left low or_at (way.Down q)) w (freed page walk.op w) stands (λ here. free_step page walk.op w here.apart)
     (λ here.
     let seen = next_seen walk low or_at page node w is here in
     let near = near_right w here.tree (Before low) page node q seen.0 (sym on) in
@@ -190,8 +190,8 @@ left_next_past walk low or_at page node q w mid now stands is same gives on = su
 
 -- it has nothing: the search goes on to the left, and keeps it too
 pub left_next_on : (walk : Walk) (low : Pair) (or_at : Bool) (page : ℕ) (node : NodeValue) (next : Pair) (w now : World) → Stands walk (stage.Left low or_at (way.Shared page)) w → page_at w page ≡ Holds node → now ≡ w → ((q : ℕ) → next_place node (Before low) ≡ place.Right q → ⊥) → prefix_len (is_ahead or_at walk.target) (pairs_in node) ≡ 0 → node.low ≡ Some next → Stepped walk (stage.Left next or_at way.Start) w now
-left_next_on walk low or_at page node next w now stands is same no_right none begins = stepped_same walk (stage.Left next or_at way.Start) w now same (λ founded.
-    let here = stands founded in
+left_next_on walk low or_at page node next w now stands is same no_right none begins = stepped_same walk (stage.Left next or_at way.Start) w now same (
+    let here = stands in
     let seen = next_seen walk low or_at page node w is here in
     let within = within_of node (Before low) no_right in
     let clear = none_from_place or_at walk.target (pairs_in node) seen.0.role.node_is.order none in
@@ -199,8 +199,8 @@ left_next_on walk low or_at page node next w now stands is same no_right none be
 
 -- the way from the root
 pub left_rooted : (walk : Walk) (low : Pair) (or_at : Bool) (row : IndexRow) (page : ℕ) (w now : World) → Stands walk (stage.Left low or_at way.Start) w → now ≡ w → row_in walk.at.index (page_at w walk.at.page) ≡ Some row → page ≡ row.root → Stepped walk (stage.Left low or_at (way.Down page)) w now
-left_rooted walk low or_at row page w now stands same told is = stepped_same walk (stage.Left low or_at (way.Down page)) w now same (λ founded.
-    let here = stands founded in
+left_rooted walk low or_at row page w now stands same told is = stepped_same walk (stage.Left low or_at (way.Down page)) w now same (
+    let here = stands in
     let tree = here.is in
     let both : Some row ≡ Some tree.row = sym told ∙ ap (row_in walk.at.index) tree.defined ∙ tree.named in
     let one : row ≡ tree.row = cc in
@@ -208,36 +208,36 @@ left_rooted walk low or_at row page w now stands same told is = stepped_same wal
     at_stage walk (stage.Left low or_at way.Start) (stage.Left low or_at (way.Down page)) w here (here.place.0, here.place.1, subst (IsNear w here.tree (Before low)) (sym root) (tree.root.0, None, tree.root.1, tt)))
 
 -- a page on the way, as the search sees it
-down_seen : (walk : Walk) (low : Pair) (or_at : Bool) (page : ℕ) (node : NodeValue) (w : World) → page_at w page ≡ Holds node → (here : StandsIn walk (stage.Left low or_at (way.Down page)) w) → IsSeen w here.tree (Before low) page node
+down_seen : (walk : Walk) (low : Pair) (or_at : Bool) (page : ℕ) (node : NodeValue) (w : World) → page_at w page ≡ Holds node → (here : Stands walk (stage.Left low or_at (way.Down page)) w) → IsSeen w here.tree (Before low) page node
 down_seen walk low or_at page node w is here = seen_near w walk.at here.tree here.leaves (Before low) page node here.is here.place.2 is
 
 pub left_down_right : (walk : Walk) (low : Pair) (or_at : Bool) (page : ℕ) (node : NodeValue) (q : ℕ) (w now : World) → Stands walk (stage.Left low or_at (way.Down page)) w → page_at w page ≡ Holds node → now ≡ w → place.Right q ≡ next_place node (Before low) → Stepped walk (stage.Left low or_at (way.Down q)) w now
-left_down_right walk low or_at page node q w now stands is same on = stepped_same walk (stage.Left low or_at (way.Down q)) w now same (λ founded.
-    let here = stands founded in
+left_down_right walk low or_at page node q w now stands is same on = stepped_same walk (stage.Left low or_at (way.Down q)) w now same (
+    let here = stands in
     at_stage walk (stage.Left low or_at (way.Down page)) (stage.Left low or_at (way.Down q)) w here (here.place.0, here.place.1, near_right w here.tree (Before low) page node q (down_seen walk low or_at page node w is here) (sym on)))
 
 pub left_down_down : (walk : Walk) (low : Pair) (or_at : Bool) (page : ℕ) (node : NodeValue) (q : ℕ) (w now : World) → Stands walk (stage.Left low or_at (way.Down page)) w → page_at w page ≡ Holds node → now ≡ w → place.Down q ≡ next_place node (Before low) → Stepped walk (stage.Left low or_at (way.Down q)) w now
-left_down_down walk low or_at page node q w now stands is same on = stepped_same walk (stage.Left low or_at (way.Down q)) w now same (λ founded.
-    let here = stands founded in
+left_down_down walk low or_at page node q w now stands is same on = stepped_same walk (stage.Left low or_at (way.Down q)) w now same (
+    let here = stands in
     at_stage walk (stage.Left low or_at (way.Down page)) (stage.Left low or_at (way.Down q)) w here (here.place.0, here.place.1, (near_down w here.tree (Before low) page node q (down_seen walk low or_at page node w is here) (sym on)).0))
 
-left_last : (walk : Walk) (low : Pair) (or_at : Bool) (page : ℕ) (node : NodeValue) (found : Place) (w : World) → page_at w page ≡ Holds node → found ≡ next_place node (Before low) → ((q : ℕ) → found ≡ place.Right q → ⊥) → ((q : ℕ) → found ≡ place.Down q → ⊥) → (here : StandsIn walk (stage.Left low or_at (way.Down page)) w) → IsLast node (Before low)
+left_last : (walk : Walk) (low : Pair) (or_at : Bool) (page : ℕ) (node : NodeValue) (found : Place) (w : World) → page_at w page ≡ Holds node → found ≡ next_place node (Before low) → ((q : ℕ) → found ≡ place.Right q → ⊥) → ((q : ℕ) → found ≡ place.Down q → ⊥) → (here : Stands walk (stage.Left low or_at (way.Down page)) w) → IsLast node (Before low)
 left_last walk low or_at page node found w is on not_right not_down here = last_here w here.tree (Before low) page node found (down_seen walk low or_at page node w is here) (sym on) not_right not_down
 
-left_at_leaf : (walk : Walk) (low : Pair) (or_at : Bool) (page : ℕ) (node : NodeValue) (w : World) → page_at w page ≡ Holds node → node.leaf ≡ true → (here : StandsIn walk (stage.Left low or_at (way.Down page)) w) → StandsIn walk (stage.Left low or_at (way.Leaf page)) w
+left_at_leaf : (walk : Walk) (low : Pair) (or_at : Bool) (page : ℕ) (node : NodeValue) (w : World) → page_at w page ≡ Holds node → node.leaf ≡ true → (here : Stands walk (stage.Left low or_at (way.Down page)) w) → Stands walk (stage.Left low or_at (way.Leaf page)) w
 left_at_leaf walk low or_at page node w is leaf here =
     let seen = down_seen walk low or_at page node w is here in
     at_stage walk (stage.Left low or_at (way.Down page)) (stage.Left low or_at (way.Leaf page)) w here (here.place.0, here.place.1, (node.low, record { node = node; is = is; of = seen.of; key_len = seen.role.key_len; kind = leaf; from = refl; linked = seen.linked }, seen.low))
 
 pub left_down_here : (walk : Walk) (low : Pair) (or_at : Bool) (page : ℕ) (node : NodeValue) (k : ℕ) (w now : World) → Stands walk (stage.Left low or_at (way.Down page)) w → page_at w page ≡ Holds node → now ≡ w → place.Here k ≡ next_place node (Before low) → Stepped walk (stage.Left low or_at (way.Leaf page)) w now
-left_down_here walk low or_at page node k w now stands is same on = stepped_same walk (stage.Left low or_at (way.Leaf page)) w now same (λ founded.
-    let here = stands founded in
+left_down_here walk low or_at page node k w now stands is same on = stepped_same walk (stage.Left low or_at (way.Leaf page)) w now same (
+    let here = stands in
     left_at_leaf walk low or_at page node w is (left_last walk low or_at page node (place.Here k) w is on (λ q one. absurd (cc)) (λ q one. absurd (cc)) here).leaf here)
 
 pub left_down_end : (walk : Walk) (low : Pair) (or_at : Bool) (page : ℕ) (node : NodeValue) (w now : World) → Stands walk (stage.Left low or_at (way.Down page)) w → page_at w page ≡ Holds node → now ≡ w → node.leaf ≡ true → Stepped walk (stage.Left low or_at (way.Leaf page)) w now
-left_down_end walk low or_at page node w now stands is same leaf = stepped_same walk (stage.Left low or_at (way.Leaf page)) w now same (λ founded. left_at_leaf walk low or_at page node w is leaf (stands founded))
+left_down_end walk low or_at page node w now stands is same leaf = stepped_same walk (stage.Left low or_at (way.Leaf page)) w now same (left_at_leaf walk low or_at page node w is leaf stands)
 
-pub left_down_bad : (walk : Walk) (low : Pair) (or_at : Bool) (page : ℕ) (node : NodeValue) (w now : World) → Stands walk (stage.Left low or_at (way.Down page)) w → page_at w page ≡ Holds node → now ≡ w → place.End ≡ next_place node (Before low) → node.leaf ≡ false → now.founded ≡ false
-left_down_bad walk low or_at page node w now stands is same on inner = not_founded w now same (λ founded.
-    let last = left_last walk low or_at page node place.End w is on (λ q one. absurd (cc)) (λ q one. absurd (cc)) (stands founded) in
+pub left_down_bad : (walk : Walk) (low : Pair) (or_at : Bool) (page : ℕ) (node : NodeValue) (w now : World) → Stands walk (stage.Left low or_at (way.Down page)) w → page_at w page ≡ Holds node → now ≡ w → place.End ≡ next_place node (Before low) → node.leaf ≡ false → ⊥
+left_down_bad walk low or_at page node w now stands is same on inner = (
+    let last = left_last walk low or_at page node place.End w is on (λ q one. absurd (cc)) (λ q one. absurd (cc)) stands in
     true≢false (sym last.leaf ∙ inner))

@@ -30,3 +30,6 @@ pub mod PostingTurns
 pub mod PostingSplits
 pub mod PostingCrowns
 pub mod Reaches
+pub mod Lost
+pub mod Stops
+pub mod Moves

@@ -1,13 +1,12 @@
 -- What an operation remembers stands after a call of another one.
 use Rattle.std.proofs.Common.{◌≡◌, ℕ, suc, Bool, true, false, sym, ◌∙◌, subst, Option, Some, None}
-use Rattle.std.specs.Prelude.{IsTrue}
 use Rattle.ct_node.specs.declared.target.Target.{Target}
 use Rattle.ct_node.specs.Nodes.{NodeValue}
 use Rattle.ct_node.specs.Worlds.{World, DefinitionValue, has_fresh, IsTidy}
 use Rattle.ct_tree_laws.specs.declared.walk.Stage.{Stage}
 use Rattle.ct_tree_laws.specs.declared.walk.Stage.TheVariants.{Start, Down, Leaf, Held, Full, Split, Cut, Share, Shared, Ended, SharedLeft, Left, Post}
 use Rattle.ct_tree_laws.specs.Trees.{Tree, IsAt, IsNear}
-use Rattle.ct_tree_laws.specs.Stands.{HasNone, HasOnly, IsNearLeaf, IsFull, IsTidyBut, IsReachedBySearch, IsAtStage, StandsIn, Stands, Keeps, IsOnWay, IsSeparator, IsAbove, IsAboveIf, IsChosen, IsHalf, HasBoth, HasDefinition, HasRoot, IsCrown, IsAtRise}
+use Rattle.ct_tree_laws.specs.Stands.{HasNone, HasOnly, IsNearLeaf, IsFull, IsTidyBut, IsReachedBySearch, IsAtStage, Stands, Keeps, IsOnWay, IsSeparator, IsAbove, IsAboveIf, IsChosen, IsHalf, HasBoth, HasDefinition, HasRoot, IsCrown, IsAtRise}
 use Rattle.ct_tree_laws.specs.declared.rise.Separator.{Separator}
 use Rattle.ct_tree_laws.specs.declared.rise.Rise.{Rise}
 use Rattle.ct_tree_laws.specs.declared.rise.Rise.TheVariants as rise
@@ -120,11 +119,10 @@ module _ (op : ℕ) (w now : World) (step : IsStep op w now) (other : ℕ) (diff
   stage_kept Ended is = none is
 
 -- a step of an operation keeps what all others remember
-pub Keeps-step : (op : ℕ) (w now : World) → now.founded ≡ w.founded → (IsTrue w.founded → IsStep op w now) → Keeps op w now
-Keeps-step op w now same step other stage differ stands founded =
-    let was : IsTrue w.founded = subst IsTrue same founded in
-    let is = stands was in
-    let made = step was in
+pub Keeps-step : (op : ℕ) (w now : World) → (IsStep op w now) → Keeps op w now
+Keeps-step op w now step other stage differ stands =
+    let is = stands in
+    let made = step in
     let after = made.tree other.at is.tree is.leaves is.is in
     record {
       tree = is.tree;

@@ -77,7 +77,7 @@ module _ (key_len : ℕ) (some : 1 ≤ key_len) (short : key_len ≤ 128) where
   }
 
   pub new_stands : (walk : Walk) → walk.at ≡ record { page = 0; index = 0 } → ((pair : Pair) → walk.target ≡ At pair → length pair.key ≡ key_len) → Stands walk stage.Start (new_world key_len)
-  new_stands walk at key founded = record {
+  new_stands walk at key = record {
     tree = record { file = 0; index = 0; key_len = key_len; first = 1 };
     leaves = 1 ∷ [];
     is = subst (λ root. IsTree (new_world key_len) root (record { file = 0; index = 0; key_len = key_len; first = 1 }) (1 ∷ [])) (sym at) new_tree;

@@ -1,6 +1,6 @@
 -- The turns that write a new root and name it, while the definition page is the operation's own.
 use Rattle.std.proofs.Common.{◌≡◌, ℕ, suc, Bool, true, false, ◌||◌, List, [], ◌∷◌, length, refl, sym, ap, ◌∙◌, subst, Some, None, find}
-use Rattle.std.specs.Prelude.{IsTrue, slice_get}
+use Rattle.std.specs.Prelude.{slice_get}
 use Rattle.std.proofs.lemmas.Bool.{false≢true, cond-false}
 use Rattle.std.proofs.lemmas.List.Elements.{All-nil, All-cons}
 use Rattle.ct_latch.specs.Latches.{bars, with_hold}
@@ -15,7 +15,7 @@ use Rattle.ct_tree_laws.specs.declared.walk.Stage.TheVariants as stage
 use Rattle.ct_tree_laws.specs.declared.rise.Separator.{Separator}
 use Rattle.ct_tree_laws.specs.declared.rise.Rise.TheVariants as rise
 use Rattle.ct_tree_laws.specs.Trees.{Tree, IsOf, IsAt, IsInRole, IsEven, IsTree, IsApart, Chain}
-use Rattle.ct_tree_laws.specs.Stands.{HasOnly, HasDefinition, HasRoot, IsCrown, node_over, IsAtStage, StandsIn, Stands, Stepped, KeepsKeys}
+use Rattle.ct_tree_laws.specs.Stands.{HasOnly, HasDefinition, HasRoot, IsCrown, node_over, IsAtStage, Stands, Stepped, KeepsKeys}
 use Rattle.ct_tree_laws.proofs.Taking.{owned, has_own-with_hold_new}
 use Rattle.ct_tree_laws.proofs.Pages.{page_at-edited, page_at-edited_other, page_at-with_fresh, is_fresh_from, has_fresh_before, has_fresh-edited_mine, has_fresh-with_fresh}
 use Rattle.ct_tree_laws.proofs.Levels.{IsEven-kept}
@@ -23,7 +23,7 @@ use Rattle.ct_tree_laws.proofs.Kept.{IsInRole-kept}
 use Rattle.ct_tree_laws.proofs.Chains.{one_node}
 use Rattle.ct_tree_laws.proofs.Steps.{IsStep, IsStep-next, IsStep-with_fresh, IsStep-from_links}
 use Rattle.ct_tree_laws.proofs.Keys.{Chain-same, leaf_at}
-use Rattle.ct_tree_laws.proofs.Turns.{at_stage, stepped_same, not_founded}
+use Rattle.ct_tree_laws.proofs.Turns.{at_stage, stepped_same}
 use Rattle.ct_tree_laws.proofs.PutTurns.{stepped_by, freed, free_step, free_keys, freed_none, only_owned}
 use Rattle.ct_tree_laws.proofs.Cuts.{same_itself}
 use Rattle.ct_tree_laws.proofs.PostingEdits.{LeavesLinks-crowns}
@@ -34,7 +34,7 @@ use Rattle.ct_tree_laws.proofs.PostingSplits.{tidy_allocated}
 -- the definition page becomes the operation's own
 pub definition_owned : (walk : Walk) (s : Separator) (w now : World) → Stands walk (stage.Post s rise.Again) w → find (bars walk.at.page walk.op true) w.holds ≡ None → now ≡ with_holds (with_hold (owned walk.at.page walk.op) w.holds) w → Stepped walk (stage.Post s rise.Named) w now
 definition_owned walk s w now stands free is = subst (Stepped walk (stage.Post s rise.Named) w) (sym is)
-    (stepped_by walk (stage.Post s rise.Again) (stage.Post s rise.Named) w (with_holds (with_hold (owned walk.at.page walk.op) w.holds) w) refl stands (λ here. owned_step walk walk.at.page w free here.apart)
+    (stepped_by walk (stage.Post s rise.Again) (stage.Post s rise.Named) w (with_holds (with_hold (owned walk.at.page walk.op) w.holds) w) stands (λ here. owned_step walk walk.at.page w free here.apart)
     (λ here.
     let after = with_holds (with_hold (owned walk.at.page walk.op) w.holds) w in (
       separator_after walk.op w after here.tree s (owned_step walk walk.at.page w free here.apart) here.place.0,
@@ -49,8 +49,8 @@ definition_page w walk t leaves def apart tree has =
 
 -- the root is read again: it is still the page that was split
 pub root_still : (walk : Walk) (s : Separator) (page : ℕ) (w now : World) → Stands walk (stage.Post s rise.Named) w → now ≡ w → page ≡ s.left → (row : IndexRow) × (row_in walk.at.index (page_at w walk.at.page) ≡ Some row) × (page ≡ row.root) → Stepped walk (stage.Post s rise.Grow) w now
-root_still walk s page w now stands same left told = stepped_same walk (stage.Post s rise.Grow) w now same (λ founded.
-    let here = stands founded in
+root_still walk s page w now stands same left told = stepped_same walk (stage.Post s rise.Grow) w now same (
+    let here = stands in
     let def = here.place.1.1.0 in
     let has = here.place.1.1.1 in
     let found = definition_page w walk here.tree here.leaves def here.apart here.is has in
@@ -72,7 +72,7 @@ root_still walk s page w now stands same left told = stepped_same walk (stage.Po
 -- or another one: the definition page is given back
 pub root_other : (walk : Walk) (s : Separator) (page : ℕ) (w mid now : World) → Stands walk (stage.Post s rise.Named) w → mid ≡ w → now ≡ freed walk.at.page walk.op mid → (row : IndexRow) × (row_in walk.at.index (page_at w walk.at.page) ≡ Some row) × (page ≡ row.root) → Stepped walk (stage.Post s (rise.Down page None)) w now
 root_other walk s page w mid now stands same gives told = subst (Stepped walk (stage.Post s (rise.Down page None)) w) (sym (gives ∙ ap (freed walk.at.page walk.op) same))
-    (stepped_by walk (stage.Post s rise.Named) (stage.Post s (rise.Down page None)) w (freed walk.at.page walk.op w) refl stands (λ here. free_step walk.at.page walk.op w here.apart)
+    (stepped_by walk (stage.Post s rise.Named) (stage.Post s (rise.Down page None)) w (freed walk.at.page walk.op w) stands (λ here. free_step walk.at.page walk.op w here.apart)
     (λ here.
     let has = here.place.1.1.1 in
     let found = definition_page w walk here.tree here.leaves here.place.1.1.0 here.apart here.is has in
@@ -82,11 +82,11 @@ root_other walk s page w mid now stands same gives told = subst (Stepped walk (s
       (here.place.1.0, (near.0, near.1, step.at here.tree near.0 near.1 page near.2, near.3), tt, freed_none walk.at.page walk.op w (subst (λ p. HasOnly walk.op p w) found.0 has.only)),
     )))
 
-pub named_tidy : (walk : Walk) (s : Separator) (w mid : World) → Stands walk (stage.Post s rise.Named) w → mid ≡ w → IsTrue mid.founded → IsTidy walk.op mid
-named_tidy walk s w mid stands same founded = subst (IsTidy walk.op) (sym same) (stands (sym (ap (λ (v : World). v.founded) same) ∙ founded)).place.1.0
+pub named_tidy : (walk : Walk) (s : Separator) (w mid : World) → Stands walk (stage.Post s rise.Named) w → mid ≡ w → IsTidy walk.op mid
+named_tidy walk s w mid stands same = subst (IsTidy walk.op) (sym same) stands.place.1.0
 
 pub named_freed_keys : (walk : Walk) (from : Stage) (page : ℕ) (w mid now : World) → Stands walk from w → mid ≡ w → now ≡ freed page walk.op mid → KeepsKeys w now
-named_freed_keys walk from page w mid now stands same gives = subst (KeepsKeys w) (sym (gives ∙ ap (freed page walk.op) same)) (free_keys page walk.op w (λ founded. (stands founded).apart))
+named_freed_keys walk from page w mid now stands same gives = subst (KeepsKeys w) (sym (gives ∙ ap (freed page walk.op) same)) (free_keys page walk.op w (stands.apart))
 
 -- the root stays known where definitions that the operation has stay
 root_kept : (w now : World) (t : Tree) (op : ℕ) (s : Separator) → (root : HasRoot w t op s) → page_at now root.has.page ≡ page_at w root.has.page → now.holds ≡ w.holds → HasRoot now t op s
@@ -107,7 +107,7 @@ root_kept w now t op s root same holds = record {
 -- a page for the new root is allocated
 pub root_allocated : (walk : Walk) (s : Separator) (root : ℕ) (w now : World) → Stands walk (stage.Post s rise.Grow) w → root ≡ length w.pages → now ≡ with_fresh walk.op w → Stepped walk (stage.Post s (rise.Crown root)) w now
 root_allocated walk s root w now stands new is = subst (Stepped walk (stage.Post s (rise.Crown root)) w) (sym is)
-    (stepped_by walk (stage.Post s rise.Grow) (stage.Post s (rise.Crown root)) w (with_fresh walk.op w) refl stands (λ here. IsStep-with_fresh walk.op w here.apart)
+    (stepped_by walk (stage.Post s rise.Grow) (stage.Post s (rise.Crown root)) w (with_fresh walk.op w) stands (λ here. IsStep-with_fresh walk.op w here.apart)
     (λ here. (
       separator_after walk.op w (with_fresh walk.op w) here.tree s (IsStep-with_fresh walk.op w here.apart) here.place.0,
       (
@@ -134,18 +134,18 @@ record IsOld (w : World) (t : Tree) (page : ℕ) (node : NodeValue) : Type 0 whe
   pub at : IsAt w t leaf None page
   pub is : at.node ≡ node
 
-old_root : (walk : Walk) (s : Separator) (root : ℕ) (node : NodeValue) (w : World) → page_at w s.left ≡ Holds node → (here : StandsIn walk (stage.Post s (rise.Crown root)) w) → IsOld w here.tree s.left node
+old_root : (walk : Walk) (s : Separator) (root : ℕ) (node : NodeValue) (w : World) → page_at w s.left ≡ Holds node → (here : Stands walk (stage.Post s (rise.Crown root)) w) → IsOld w here.tree s.left node
 old_root walk s root node w is here =
     let at = root_at walk s w here.tree here.leaves here.apart here.is here.place.1.1 in
     record { leaf = here.is.root.0; at = at; is = one_node w s.left node at.node is at.is }
 
-pub crown_key : (walk : Walk) (s : Separator) (root : ℕ) (node : NodeValue) (w mid : World) → Stands walk (stage.Post s (rise.Crown root)) w → page_at w s.left ≡ Holds node → mid ≡ w → (node.key_len ≡ length s.low.key → ⊥) → mid.founded ≡ false
-crown_key walk s root node w mid stands is same differ = not_founded w mid same (λ founded.
-    let here = stands founded in
+pub crown_key : (walk : Walk) (s : Separator) (root : ℕ) (node : NodeValue) (w mid : World) → Stands walk (stage.Post s (rise.Crown root)) w → page_at w s.left ≡ Holds node → mid ≡ w → (node.key_len ≡ length s.low.key → ⊥) → ⊥
+crown_key walk s root node w mid stands is same differ = (
+    let here = stands in
     let old = old_root walk s root node w is here in
     differ (ap (λ (v : NodeValue). v.key_len) (sym old.is) ∙ old.at.key_len ∙ sym here.place.0.2))
 
-module _ (walk : Walk) (s : Separator) (root : ℕ) (node : NodeValue) (w : World) (is : page_at w s.left ≡ Holds node) (here : StandsIn walk (stage.Post s (rise.Crown root)) w) where
+module _ (walk : Walk) (s : Separator) (root : ℕ) (node : NodeValue) (w : World) (is : page_at w s.left ≡ Holds node) (here : Stands walk (stage.Post s (rise.Crown root)) w) where
   -- the new root's two entries
   abbrev first_entry : Entry
   first_entry = record { pair = first_of node.key_len None; child = s.left }
@@ -263,28 +263,28 @@ module _ (walk : Walk) (s : Separator) (root : ℕ) (node : NodeValue) (w : Worl
       )
 
 -- the new root is written
-pub crown_absent : (walk : Walk) (s : Separator) (root : ℕ) (node base : NodeValue) (w mid : World) → Stands walk (stage.Post s (rise.Crown root)) w → page_at w s.left ≡ Holds node → mid ≡ w → base ≡ node_over node s.left → has_pair s.low (pairs_in base) ≡ true → mid.founded ≡ false
-crown_absent walk s root node base w mid stands is same made has = not_founded w mid same (λ founded. drawn_absent walk s root node w is (stands founded) base made has)
+pub crown_absent : (walk : Walk) (s : Separator) (root : ℕ) (node base : NodeValue) (w mid : World) → Stands walk (stage.Post s (rise.Crown root)) w → page_at w s.left ≡ Holds node → mid ≡ w → base ≡ node_over node s.left → has_pair s.low (pairs_in base) ≡ true → ⊥
+crown_absent walk s root node base w mid stands is same made has = (drawn_absent walk s root node w is stands base made has)
 
-pub crown_writes : (walk : Walk) (s : Separator) (root : ℕ) (node base new : NodeValue) (w : World) → page_at w s.left ≡ Holds node → base ≡ node_over node s.left → new ≡ record base { entries = with_entry (record { pair = s.low; child = s.child }) base.entries } → IsNode new → StandsIn walk (stage.Post s (rise.Crown root)) w → WritesRoot walk.op root new w
+pub crown_writes : (walk : Walk) (s : Separator) (root : ℕ) (node base new : NodeValue) (w : World) → page_at w s.left ≡ Holds node → base ≡ node_over node s.left → new ≡ record base { entries = with_entry (record { pair = s.low; child = s.child }) base.entries } → IsNode new → Stands walk (stage.Post s (rise.Crown root)) w → WritesRoot walk.op root new w
 crown_writes walk s root node base new w is first second sound here = writes_root walk s root node w is here new (drawn_is walk s root node w is here base new first second) sound
 
 pub crown_written : (walk : Walk) (s : Separator) (root : ℕ) (node base new : NodeValue) (w now : World) → Stands walk (stage.Post s (rise.Crown root)) w → page_at w s.left ≡ Holds node → base ≡ node_over node s.left → new ≡ record base { entries = with_entry (record { pair = s.low; child = s.child }) base.entries } → IsNode new → now ≡ edited walk.op root new w → Stepped walk (stage.Post s (rise.Crowned root)) w now
 crown_written walk s root node base new w now stands is first second sound same = subst (Stepped walk (stage.Post s (rise.Crowned root)) w) (sym same)
-    (stepped_by walk (stage.Post s (rise.Crown root)) (stage.Post s (rise.Crowned root)) w (edited walk.op root new w) refl stands
+    (stepped_by walk (stage.Post s (rise.Crown root)) (stage.Post s (rise.Crowned root)) w (edited walk.op root new w) stands
     (λ here. IsStep-from_links walk.op w (edited walk.op root new w) (LeavesLinks-crowns walk.op root new w here.apart (crown_writes walk s root node base new w is first second sound here)))
     (λ here. crowned_place walk s root node w is here new (drawn_is walk s root node w is here base new first second) sound))
 
 pub crown_written_keys : (walk : Walk) (s : Separator) (root : ℕ) (node base new : NodeValue) (w now : World) → Stands walk (stage.Post s (rise.Crown root)) w → page_at w s.left ≡ Holds node → base ≡ node_over node s.left → new ≡ record base { entries = with_entry (record { pair = s.low; child = s.child }) base.entries } → IsNode new → now ≡ edited walk.op root new w → KeepsKeys w now
-crown_written_keys walk s root node base new w now stands is first second sound same = subst (KeepsKeys w) (sym same) (λ founded at keys chain.
-    let here = stands founded in
+crown_written_keys walk s root node base new w now stands is first second sound same = subst (KeepsKeys w) (sym same) (λ at keys chain.
+    let here = stands in
     let writes = crown_writes walk s root node base new w is first second sound here in
     Chain-same w (edited walk.op root new w) at keys (LeavesLinks-crowns walk.op root new w here.apart writes).links chain (λ q among. page_at-edited_other walk.op root new w q (λ one.
     let leaf = (leaf_at w at chain.tree chain.leaves chain.is q among).1 in
     absurd (let no : Blank ≡ Holds leaf.node = sym writes.blank ∙ sym (ap (page_at w) one) ∙ leaf.is in cc))))
 
 -- the new root is named
-module _ (walk : Walk) (s : Separator) (root : ℕ) (w : World) (here : StandsIn walk (stage.Post s (rise.Crowned root)) w) where
+module _ (walk : Walk) (s : Separator) (root : ℕ) (w : World) (here : Stands walk (stage.Post s (rise.Crowned root)) w) where
   definition : (here.place.1.1.has.page ≡ walk.at.page) × (here.place.1.1.def ≡ here.is.def)
   definition = definition_page w walk here.tree here.leaves here.place.1.1.def here.apart here.is here.place.1.1.has
 
@@ -323,20 +323,20 @@ module _ (walk : Walk) (s : Separator) (root : ℕ) (w : World) (here : StandsIn
   only_definition : HasOnly walk.op walk.at.page w
   only_definition = subst (λ p. HasOnly walk.op p w) definition.0 here.place.1.1.has.only
 
-pub root_named_tidy : (walk : Walk) (s : Separator) (root : ℕ) (w mid : World) → Stands walk (stage.Post s (rise.Crowned root)) w → mid ≡ rooted walk.op walk.at root w → IsTrue mid.founded → IsTidy walk.op mid
-root_named_tidy walk s root w mid stands same founded = subst (IsTidy walk.op) (sym same) (rooted_tidy walk s root w (stands (sym (ap (λ (v : World). v.founded) same) ∙ founded)))
+pub root_named_tidy : (walk : Walk) (s : Separator) (root : ℕ) (w mid : World) → Stands walk (stage.Post s (rise.Crowned root)) w → mid ≡ rooted walk.op walk.at root w → IsTidy walk.op mid
+root_named_tidy walk s root w mid stands same = subst (IsTidy walk.op) (sym same) (rooted_tidy walk s root w stands)
 
 pub root_named : (walk : Walk) (s : Separator) (root : ℕ) (w mid now : World) → Stands walk (stage.Post s (rise.Crowned root)) w → mid ≡ rooted walk.op walk.at root w → now ≡ freed walk.at.page walk.op mid → Stepped walk stage.Start w now
 root_named walk s root w mid now stands same gives =
     let after = rooted walk.op walk.at root w in
     subst (Stepped walk stage.Start w) (sym (gives ∙ ap (freed walk.at.page walk.op) same))
-    (stepped_by walk (stage.Post s (rise.Crowned root)) stage.Start w (freed walk.at.page walk.op after) refl stands
+    (stepped_by walk (stage.Post s (rise.Crowned root)) stage.Start w (freed walk.at.page walk.op after) stands
     (λ here. let first = rooted_step walk s root w here in IsStep-next walk.op w after (freed walk.at.page walk.op after) first (free_step walk.at.page walk.op after first.apart))
     (λ here. (rooted_tidy walk s root w here, freed_none walk.at.page walk.op after (only_definition walk s root w here))))
 
 pub root_named_keys : (walk : Walk) (s : Separator) (root : ℕ) (w mid now : World) → Stands walk (stage.Post s (rise.Crowned root)) w → mid ≡ rooted walk.op walk.at root w → now ≡ freed walk.at.page walk.op mid → KeepsKeys w now
-root_named_keys walk s root w mid now stands same gives founded at keys chain =
+root_named_keys walk s root w mid now stands same gives at keys chain =
     let after = rooted walk.op walk.at root w in
-    let here = stands founded in
+    let here = stands in
     subst (λ v. Chain v at keys) (sym (gives ∙ ap (freed walk.at.page walk.op) same))
-    (free_keys walk.at.page walk.op after (λ _. (rooted_step walk s root w here).apart) founded at keys (rooted_keys walk s root w here founded at keys chain))
+    (free_keys walk.at.page walk.op after (rooted_step walk s root w here).apart at keys (rooted_keys walk s root w here at keys chain))

@@ -181,7 +181,6 @@ module _ (op page : ℕ) (at : Root) (w : World) (apart : IsApart w) (t : Tree) 
 
   pub LeavesLinks-rooted : LeavesLinks op w (rooted op at page w)
   LeavesLinks-rooted = record {
-    founded = refl;
     apart = IsApart-rooted;
     links = KeepsLinks-rooted;
     latch = λ another q differ. refl;
@@ -193,7 +192,7 @@ module _ (op page : ℕ) (at : Root) (w : World) (apart : IsApart w) (t : Tree) 
   }
 
   pub KeepsKeys-rooted : KeepsKeys w (rooted op at page w)
-  KeepsKeys-rooted founded root keys chain = Chain-same w (rooted op at page w) root keys KeepsLinks-rooted chain
+  KeepsKeys-rooted root keys chain = Chain-same w (rooted op at page w) root keys KeepsLinks-rooted chain
       (λ q among. let leaf = (leaf_at w root chain.tree chain.leaves chain.is q among).1 in other q (not_definition q leaf.node leaf.is))
 
   -- the operation's other pages are as blank as before

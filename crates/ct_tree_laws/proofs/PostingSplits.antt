@@ -1,6 +1,6 @@
 -- The turns that split an inner node: both halves are the operation's own at the cut, and the one that the separator belongs to stays so.
 use Rattle.std.proofs.Common.{◌≡◌, ℕ, ◌<◌, ◌≤◌, true, false, not, length, refl, sym, ap, ◌∙◌, arith, subst, inl, inr, ⊎_elim, Option, Some, None, find}
-use Rattle.std.specs.Prelude.{IsTrue, ◌⊎◌}
+use Rattle.std.specs.Prelude.{◌⊎◌}
 use Rattle.std.proofs.lemmas.Bool.{false≢true, and_parts, and_from, false_from_ne_true}
 use Rattle.std.proofs.lemmas.List.{get_or_past, length-take-le, length-drop}
 use Rattle.ct_latch.specs.Latches.{is_of, bars, with_hold}
@@ -17,7 +17,7 @@ use Rattle.ct_tree_laws.specs.declared.walk.Stage.TheVariants as stage
 use Rattle.ct_tree_laws.specs.declared.rise.Separator.{Separator}
 use Rattle.ct_tree_laws.specs.declared.rise.Rise.TheVariants as rise
 use Rattle.ct_tree_laws.specs.Trees.{Tree, IsInRole, IsLowFor, Chain}
-use Rattle.ct_tree_laws.specs.Stands.{HasOnly, HasBoth, IsTidyBut, IsSeparator, IsAbove, IsCrowded, IsHalf, StandsIn, Stands, Stepped, KeepsKeys, KeepsLevels}
+use Rattle.ct_tree_laws.specs.Stands.{HasOnly, HasBoth, IsTidyBut, IsSeparator, IsAbove, IsCrowded, IsHalf, Stands, Stepped, KeepsKeys, KeepsLevels}
 use Rattle.ct_tree_laws.proofs.Holders.{list_any_filtered, list_any-filter, list_any-with_hold_old, list_any-with_hold_more, list_any_gone}
 use Rattle.ct_tree_laws.proofs.Taking.{owned, is_of_parts, is_of_from, is_own_parts, has_own-with_hold_new}
 use Rattle.ct_tree_laws.proofs.Pages.{page_within, page_at-edited, page_at-edited_other, page_at-with_fresh, stays_linked, is_fresh_from, has_fresh_before, has_fresh-edited_mine, is_linked-edited, is_fresh-with_fresh, has_fresh-with_fresh, has_fresh_new}
@@ -28,21 +28,21 @@ use Rattle.ct_tree_laws.proofs.Edits.{LeavesLinks-right, not_theirs_held}
 use Rattle.ct_tree_laws.proofs.Cuts.{IsStep-cut, low-upper, high-lower}
 use Rattle.ct_tree_laws.proofs.Keys.{KeepsKeys-with_fresh, KeepsKeys-right, KeepsKeys-cut}
 use Rattle.ct_tree_laws.proofs.Walking.{onward_of, past_low}
-use Rattle.ct_tree_laws.proofs.Turns.{not_founded}
+use Rattle.ct_tree_laws.proofs.Turns.{}
 use Rattle.ct_tree_laws.proofs.Capacities.{capacity_four}
 use Rattle.ct_tree_laws.proofs.PutTurns.{stepped_by, freed, free_step, free_keys}
 use Rattle.ct_tree_laws.proofs.PostingZeros.{IsMiddle}
 use Rattle.ct_tree_laws.proofs.PostingTurns.{separator_after, owned_step}
 
 -- the node that is to be split, as the operation has it
-pub crowded_held : (walk : Walk) (from : Stage) (s : Separator) (page : ℕ) (node : NodeValue) (w : World) (here : StandsIn walk from w) → IsCrowded w here.tree walk.op s page node → IsHeld walk.op page node w
+pub crowded_held : (walk : Walk) (from : Stage) (s : Separator) (page : ℕ) (node : NodeValue) (w : World) (here : Stands walk from w) → IsCrowded w here.tree walk.op s page node → IsHeld walk.op page node w
 crowded_held walk from s page node w here (chosen, enough, full) =
     record { is = chosen.is; owned = chosen.owned; linked = chosen.linked; onward = onward_of w here.tree node here.apart (here.is.roles page node chosen.is chosen.of chosen.linked) }
 
-crowded_role : (walk : Walk) (from : Stage) (s : Separator) (page : ℕ) (node : NodeValue) (w : World) (here : StandsIn walk from w) → IsCrowded w here.tree walk.op s page node → IsInRole w here.tree node
+crowded_role : (walk : Walk) (from : Stage) (s : Separator) (page : ℕ) (node : NodeValue) (w : World) (here : Stands walk from w) → IsCrowded w here.tree walk.op s page node → IsInRole w here.tree node
 crowded_role walk from s page node w here (chosen, enough, full) = here.is.roles page node chosen.is chosen.of chosen.linked
 
-crowded_seen : (walk : Walk) (from : Stage) (s : Separator) (page : ℕ) (known node : NodeValue) (w : World) (here : StandsIn walk from w) → IsCrowded w here.tree walk.op s page known → page_at w page ≡ Holds node → IsCrowded w here.tree walk.op s page node
+crowded_seen : (walk : Walk) (from : Stage) (s : Separator) (page : ℕ) (known node : NodeValue) (w : World) (here : Stands walk from w) → IsCrowded w here.tree walk.op s page known → page_at w page ≡ Holds node → IsCrowded w here.tree walk.op s page node
 crowded_seen walk from s page known node w here crowded is = subst (IsCrowded w here.tree walk.op s page) (sym (one_node w page known node crowded.0.is is)) crowded
 
 -- it stays so where its page stays
@@ -55,7 +55,7 @@ tidy_allocated op w tidy q mine = page_at-with_fresh op w q ∙ ⊎_elim (λ one
 
 pub above_allocated : (walk : Walk) (s : Separator) (page right : ℕ) (w now : World) → Stands walk (stage.Post s (rise.Full page)) w → right ≡ length w.pages → now ≡ with_fresh walk.op w → Stepped walk (stage.Post s (rise.Fresh page right)) w now
 above_allocated walk s page right w now stands new is = subst (Stepped walk (stage.Post s (rise.Fresh page right)) w) (sym is)
-    (stepped_by walk (stage.Post s (rise.Full page)) (stage.Post s (rise.Fresh page right)) w (with_fresh walk.op w) refl stands (λ here. IsStep-with_fresh walk.op w here.apart)
+    (stepped_by walk (stage.Post s (rise.Full page)) (stage.Post s (rise.Fresh page right)) w (with_fresh walk.op w) stands (λ here. IsStep-with_fresh walk.op w here.apart)
     (λ here.
     let node = here.place.1.1.0 in
     let crowded = here.place.1.1.1 in (
@@ -69,7 +69,7 @@ above_allocated walk s page right w now stands new is = subst (Stepped walk (sta
     )))
 
 pub above_allocated_keys : (walk : Walk) (from : Stage) (w now : World) → Stands walk from w → now ≡ with_fresh walk.op w → KeepsKeys w now
-above_allocated_keys walk from w now stands is = subst (KeepsKeys w) (sym is) (KeepsKeys-with_fresh walk.op w (λ founded. (stands founded).apart))
+above_allocated_keys walk from w now stands is = subst (KeepsKeys w) (sym is) (KeepsKeys-with_fresh walk.op w (stands.apart))
 
 -- the new page becomes the operation's own too
 has_own-with_hold_more : (page q op : ℕ) (w : World) → has_own op q w ≡ true → has_own op q (with_holds (with_hold (owned page op) w.holds) w) ≡ true
@@ -93,7 +93,7 @@ both_owned page right op w only q latched = ⊎_elim
 
 pub right_owned : (walk : Walk) (s : Separator) (page right : ℕ) (w now : World) → Stands walk (stage.Post s (rise.Fresh page right)) w → find (bars right walk.op true) w.holds ≡ None → now ≡ with_holds (with_hold (owned right walk.op) w.holds) w → Stepped walk (stage.Post s (rise.Split page right)) w now
 right_owned walk s page right w now stands free is = subst (Stepped walk (stage.Post s (rise.Split page right)) w) (sym is)
-    (stepped_by walk (stage.Post s (rise.Fresh page right)) (stage.Post s (rise.Split page right)) w (with_holds (with_hold (owned right walk.op) w.holds) w) refl stands (λ here. owned_step walk right w free here.apart)
+    (stepped_by walk (stage.Post s (rise.Fresh page right)) (stage.Post s (rise.Split page right)) w (with_holds (with_hold (owned right walk.op) w.holds) w) stands (λ here. owned_step walk right w free here.apart)
     (λ here.
     let after = with_holds (with_hold (owned right walk.op) w.holds) w in
     let node = here.place.1.1.0 in
@@ -109,42 +109,42 @@ right_owned walk s page right w now stands free is = subst (Stepped walk (stage.
     )))
 
 -- the right half is written
-pub above_enough : (walk : Walk) (s : Separator) (page right : ℕ) (node : NodeValue) (w mid : World) → Stands walk (stage.Post s (rise.Split page right)) w → page_at w page ≡ Holds node → mid ≡ w → length node.entries < 2 → mid.founded ≡ false
-above_enough walk s page right node w mid stands is same few = not_founded w mid same (λ founded.
-    let here = stands founded in
+pub above_enough : (walk : Walk) (s : Separator) (page right : ℕ) (node : NodeValue) (w mid : World) → Stands walk (stage.Post s (rise.Split page right)) w → page_at w page ≡ Holds node → mid ≡ w → length node.entries < 2 → ⊥
+above_enough walk s page right node w mid stands is same few = (
+    let here = stands in
     let crowded = crowded_seen walk (stage.Post s (rise.Split page right)) s page here.place.1.1.0 node w here here.place.1.1.1 is in
     let enough = crowded.1 in
     absurd (omega arith))
 
-pub writes_above : (walk : Walk) (s : Separator) (page right : ℕ) (node new : NodeValue) (w : World) → page_at w page ≡ Holds node → new ≡ upper_half node → StandsIn walk (stage.Post s (rise.Split page right)) w → WritesRight walk.op right new w
+pub writes_above : (walk : Walk) (s : Separator) (page right : ℕ) (node new : NodeValue) (w : World) → page_at w page ≡ Holds node → new ≡ upper_half node → Stands walk (stage.Post s (rise.Split page right)) w → WritesRight walk.op right new w
 writes_above walk s page right node new w is made here =
     let crowded = crowded_seen walk (stage.Post s (rise.Split page right)) s page here.place.1.1.0 node w here here.place.1.1.1 is in
     record { from = page; node = node; held = crowded_held walk (stage.Post s (rise.Split page right)) s page node w here crowded; enough = crowded.1; blank = here.place.1.0 right here.place.1.2; mine = here.place.1.2; made = made }
 
 pub above_written : (walk : Walk) (s : Separator) (page right : ℕ) (node new : NodeValue) (w now : World) → Stands walk (stage.Post s (rise.Split page right)) w → page_at w page ≡ Holds node → new ≡ upper_half node → now ≡ edited walk.op right new w → Stepped walk (stage.Post s (rise.Cut page right)) w now
 above_written walk s page right node new w now stands is made same = subst (Stepped walk (stage.Post s (rise.Cut page right)) w) (sym same)
-    (stepped_by walk (stage.Post s (rise.Split page right)) (stage.Post s (rise.Cut page right)) w (edited walk.op right new w) refl stands step
+    (stepped_by walk (stage.Post s (rise.Split page right)) (stage.Post s (rise.Cut page right)) w (edited walk.op right new w) stands step
     (λ here. (separator_after walk.op w (edited walk.op right new w) here.tree s (step here) here.place.0, (tidy here, (node, crowded here, written here), mine here, here.place.1.3, here.place.1.4))))
   where
-    step : StandsIn walk (stage.Post s (rise.Split page right)) w → IsStep walk.op w (edited walk.op right new w)
+    step : Stands walk (stage.Post s (rise.Split page right)) w → IsStep walk.op w (edited walk.op right new w)
     step here = IsStep-from_links walk.op w (edited walk.op right new w) (LeavesLinks-right walk.op right new w here.apart (writes_above walk s page right node new w is made here))
 
-    tidy : (here : StandsIn walk (stage.Post s (rise.Split page right)) w) → IsTidyBut walk.op right (edited walk.op right new w)
+    tidy : (here : Stands walk (stage.Post s (rise.Split page right)) w) → IsTidyBut walk.op right (edited walk.op right new w)
     tidy here q has apart = page_at-edited_other walk.op right new w q apart ∙ here.place.1.0 q (has_fresh_before walk.op right new w walk.op q has)
 
-    known : (here : StandsIn walk (stage.Post s (rise.Split page right)) w) → IsCrowded w here.tree walk.op s page node
+    known : (here : Stands walk (stage.Post s (rise.Split page right)) w) → IsCrowded w here.tree walk.op s page node
     known here = crowded_seen walk (stage.Post s (rise.Split page right)) s page here.place.1.1.0 node w here here.place.1.1.1 is
 
-    crowded : (here : StandsIn walk (stage.Post s (rise.Split page right)) w) → IsCrowded (edited walk.op right new w) here.tree walk.op s page node
+    crowded : (here : Stands walk (stage.Post s (rise.Split page right)) w) → IsCrowded (edited walk.op right new w) here.tree walk.op s page node
     crowded here =
         let old = crowded_seen walk (stage.Post s (rise.Split page right)) s page here.place.1.1.0 node w here here.place.1.1.1 is in
         let apart : page ≡ right → ⊥ = λ one. false≢true (sym old.0.linked ∙ subst (λ q. is_fresh q w ≡ true) (sym one) (is_fresh_from walk.op right w here.place.1.2)) in
         crowded_kept w (edited walk.op right new w) here.tree walk.op s page node (page_at-edited_other walk.op right new w page apart) old.0.owned (stays_linked walk.op right new w page old.0.linked) (step here).levels old
 
-    written : (here : StandsIn walk (stage.Post s (rise.Split page right)) w) → page_at (edited walk.op right new w) right ≡ Holds (upper_half node)
+    written : (here : Stands walk (stage.Post s (rise.Split page right)) w) → page_at (edited walk.op right new w) right ≡ Holds (upper_half node)
     written here = page_at-edited walk.op right new w (here.apart.within right (is_fresh_from walk.op right w here.place.1.2)) ∙ ap Holds made
 
-    mine : (here : StandsIn walk (stage.Post s (rise.Split page right)) w) → has_fresh walk.op right (edited walk.op right new w) ≡ true
+    mine : (here : Stands walk (stage.Post s (rise.Split page right)) w) → has_fresh walk.op right (edited walk.op right new w) ≡ true
     mine here =
         let old = crowded_seen walk (stage.Post s (rise.Split page right)) s page here.place.1.1.0 node w here here.place.1.1.1 is in
         let held = crowded_held walk (stage.Post s (rise.Split page right)) s page node w here old in
@@ -153,17 +153,17 @@ above_written walk s page right node new w now stands is made same = subst (Step
 
 pub above_written_keys : (walk : Walk) (s : Separator) (page right : ℕ) (node new : NodeValue) (w now : World) → Stands walk (stage.Post s (rise.Split page right)) w → page_at w page ≡ Holds node → new ≡ upper_half node → now ≡ edited walk.op right new w → KeepsKeys w now
 above_written_keys walk s page right node new w now stands is made same = subst (KeepsKeys w) (sym same)
-    (KeepsKeys-right walk.op right new w (λ founded. (stands founded).apart) (λ founded. writes_above walk s page right node new w is made (stands founded)))
+    (KeepsKeys-right walk.op right new w (stands.apart) (writes_above walk s page right node new w is made stands))
 
 -- the left node is cut
-pub cut_above_enough : (walk : Walk) (s : Separator) (page right : ℕ) (node : NodeValue) (w mid : World) → Stands walk (stage.Post s (rise.Cut page right)) w → page_at w page ≡ Holds node → mid ≡ w → length node.entries < 2 → mid.founded ≡ false
-cut_above_enough walk s page right node w mid stands is same few = not_founded w mid same (λ founded.
-    let here = stands founded in
+pub cut_above_enough : (walk : Walk) (s : Separator) (page right : ℕ) (node : NodeValue) (w mid : World) → Stands walk (stage.Post s (rise.Cut page right)) w → page_at w page ≡ Holds node → mid ≡ w → length node.entries < 2 → ⊥
+cut_above_enough walk s page right node w mid stands is same few = (
+    let here = stands in
     let crowded = crowded_seen walk (stage.Post s (rise.Cut page right)) s page here.place.1.1.0 node w here here.place.1.1.1 is in
     let enough = crowded.1 in
     absurd (omega arith))
 
-module _ (walk : Walk) (s : Separator) (page right : ℕ) (node : NodeValue) (w : World) (is : page_at w page ≡ Holds node) (here : StandsIn walk (stage.Post s (rise.Cut page right)) w) where
+module _ (walk : Walk) (s : Separator) (page right : ℕ) (node : NodeValue) (w : World) (is : page_at w page ≡ Holds node) (here : Stands walk (stage.Post s (rise.Cut page right)) w) where
   cut : World
   cut = edited walk.op page (lower_half right node) w
 
@@ -275,7 +275,7 @@ only_after_free page q op w both other latched = ⊎_elim
     (λ stays. stays)
     (both other (list_any_filtered (is_of other op) (λ hold. not (is_of page op hold)) w.holds latched))
 
-cut_free_step : (walk : Walk) (s : Separator) (page right gone : ℕ) (node : NodeValue) (w : World) (is : page_at w page ≡ Holds node) → StandsIn walk (stage.Post s (rise.Cut page right)) w → IsStep walk.op w (freed gone walk.op (edited walk.op page (lower_half right node) w))
+cut_free_step : (walk : Walk) (s : Separator) (page right gone : ℕ) (node : NodeValue) (w : World) (is : page_at w page ≡ Holds node) → Stands walk (stage.Post s (rise.Cut page right)) w → IsStep walk.op w (freed gone walk.op (edited walk.op page (lower_half right node) w))
 cut_free_step walk s page right gone node w is here =
     let first = cut_above_step walk s page right node w is here in
     IsStep-next walk.op w (edited walk.op page (lower_half right node) w) (freed gone walk.op (edited walk.op page (lower_half right node) w)) first (free_step gone walk.op (edited walk.op page (lower_half right node) w) first.apart)
@@ -288,7 +288,7 @@ cut_above_left walk s page right node new low w mid now stands is middle made in
     let all : now ≡ freed right walk.op after = gives ∙ ap (freed right walk.op) (same ∙ ap (λ v. edited walk.op page v w) made) in
     let within : is_within (lower_half right node).low (lower_half right node).high s.low ≡ true = subst (λ (v : NodeValue). is_within v.low v.high s.low ≡ true) made inside in
     subst (Stepped walk to w) (sym all)
-    (stepped_by walk (stage.Post s (rise.Cut page right)) to w (freed right walk.op after) refl stands (cut_free_step walk s page right right node w is)
+    (stepped_by walk (stage.Post s (rise.Cut page right)) to w (freed right walk.op after) stands (cut_free_step walk s page right right node w is)
     (λ here.
     let own : has_own walk.op page (freed right walk.op after) ≡ true = own_after_free right page walk.op after (λ one. not_right walk s page right node w is here (sym one)) ∙ (crowded walk s page right node w is here).0.owned in
     let linked : is_fresh page (freed right walk.op after) ≡ false = stays_linked walk.op page (lower_half right node) w page (crowded walk s page right node w is here).0.linked in
@@ -304,7 +304,7 @@ cut_above_right walk s page right node new low w mid now stands is middle made o
     let all : now ≡ freed page walk.op after = gives ∙ ap (freed page walk.op) (same ∙ ap (λ v. edited walk.op page v w) made) in
     let without : is_within (lower_half right node).low (lower_half right node).high s.low ≡ false = subst (λ (v : NodeValue). is_within v.low v.high s.low ≡ false) made outside in
     subst (Stepped walk to w) (sym all)
-    (stepped_by walk (stage.Post s (rise.Cut page right)) to w (freed page walk.op after) refl stands (cut_free_step walk s page right page node w is)
+    (stepped_by walk (stage.Post s (rise.Cut page right)) to w (freed page walk.op after) stands (cut_free_step walk s page right page node w is)
     (λ here.
     let own : has_own walk.op right (freed page walk.op after) ≡ true = own_after_free page right walk.op after (not_right walk s page right node w is here) ∙ here.place.1.3 in
     let half = right_half walk s page right node w is here low middle without (freed page walk.op after) (free_step page walk.op after (cut_above_step walk s page right node w is here).apart) (right_there walk s page right node w is here) own (right_linked walk s page right node w is here) in (
@@ -312,16 +312,16 @@ cut_above_right walk s page right node new low w mid now stands is middle made o
       (cut_above_tidy walk s page right node w is here, half.0, own, only_after_free page right walk.op after here.place.1.4, half.1),
     )))
 
-pub cut_above_is_tidy : (walk : Walk) (s : Separator) (page right : ℕ) (node new : NodeValue) (w mid : World) → Stands walk (stage.Post s (rise.Cut page right)) w → page_at w page ≡ Holds node → new ≡ lower_half right node → mid ≡ edited walk.op page new w → IsTrue mid.founded → IsTidy walk.op mid
-cut_above_is_tidy walk s page right node new w mid stands is made same founded =
+pub cut_above_is_tidy : (walk : Walk) (s : Separator) (page right : ℕ) (node new : NodeValue) (w mid : World) → Stands walk (stage.Post s (rise.Cut page right)) w → page_at w page ≡ Holds node → new ≡ lower_half right node → mid ≡ edited walk.op page new w → IsTidy walk.op mid
+cut_above_is_tidy walk s page right node new w mid stands is made same =
     let all : mid ≡ edited walk.op page (lower_half right node) w = same ∙ ap (λ v. edited walk.op page v w) made in
-    subst (IsTidy walk.op) (sym all) (cut_above_tidy walk s page right node w is (stands (sym (ap (λ (v : World). v.founded) all) ∙ founded)))
+    subst (IsTidy walk.op) (sym all) (cut_above_tidy walk s page right node w is stands)
 
 pub cut_above_keys : (walk : Walk) (s : Separator) (page right gone : ℕ) (node new : NodeValue) (w mid now : World) → Stands walk (stage.Post s (rise.Cut page right)) w → page_at w page ≡ Holds node → new ≡ lower_half right node → mid ≡ edited walk.op page new w → now ≡ freed gone walk.op mid → KeepsKeys w now
-cut_above_keys walk s page right gone node new w mid now stands is made same gives founded at keys chain =
+cut_above_keys walk s page right gone node new w mid now stands is made same gives at keys chain =
     let after = edited walk.op page (lower_half right node) w in
     let all : now ≡ freed gone walk.op after = gives ∙ ap (freed gone walk.op) (same ∙ ap (λ v. edited walk.op page v w) made) in
-    let first = KeepsKeys-cut walk.op page right node w (λ founded.
-    let here = stands founded in
-    (here.apart, held walk s page right node w is here, (crowded walk s page right node w is here).1, here.place.1.2, upper walk s page right node w is here)) founded at keys chain in
-    subst (λ v. Chain v at keys) (sym all) (free_keys gone walk.op after (λ _. (cut_above_step walk s page right node w is (stands founded)).apart) founded at keys first)
+    let first = KeepsKeys-cut walk.op page right node w (
+    let here = stands in
+    (here.apart, held walk s page right node w is here, (crowded walk s page right node w is here).1, here.place.1.2, upper walk s page right node w is here)) at keys chain in
+    subst (λ v. Chain v at keys) (sym all) (free_keys gone walk.op after (cut_above_step walk s page right node w is stands).apart at keys first)

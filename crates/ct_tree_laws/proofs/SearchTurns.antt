@@ -1,6 +1,6 @@
 -- The turns of a search to the right: all leaves up to its place hold nothing for it, and so the pair that it finds is the first one.
 use Rattle.std.proofs.Common.{◌≡◌, ℕ, Bool, true, false, not, ◌&&◌, ◌||◌, List, [], ◌∷◌, refl, sym, ap, ◌∙◌, subst, inl, inr, ⊎_elim, Option, Some, None, filter}
-use Rattle.std.specs.Prelude.{IsTrue, ◌⊎◌, find, ◌==◌}
+use Rattle.std.specs.Prelude.{◌⊎◌, find, ◌==◌}
 use Rattle.std.specs.List.{AllPass, prefix_len}
 use Rattle.std.proofs.lemmas.Bool.{cases_Bool, false≢true, or_cases, cond-true, false_from_ne_true, eq-eqb}
 use Rattle.ct_latch.specs.Latches.{is_of, bars, with_share}
@@ -17,14 +17,14 @@ use Rattle.ct_tree_laws.specs.declared.walk.Walk.{Walk}
 use Rattle.ct_tree_laws.specs.declared.walk.Stage.{Stage}
 use Rattle.ct_tree_laws.specs.declared.walk.Stage.TheVariants as stage
 use Rattle.ct_tree_laws.specs.Trees.{Tree, IsOf, IsAt, IsTree, IsApart, IsInRole, IsLower, HasPassed, IsNear, IsLowFor, IsAmong, Link, Linked, link_of, link_by, link_in, Rises}
-use Rattle.ct_tree_laws.specs.Stands.{HasNone, IsNearLeaf, IsReachedBySearch, StandsIn, Stands, Stepped, KeepsKeys}
+use Rattle.ct_tree_laws.specs.Stands.{HasNone, IsNearLeaf, IsReachedBySearch, Stands, Stepped, KeepsKeys}
 use Rattle.ct_tree_laws.proofs.Taking.{shared, ChangesLatches-share, ChangesLatches-free_all, has_latch-with_share_new, list_any-with_share_more, is_of_parts, is_of_from}
 use Rattle.ct_tree_laws.proofs.Holders.{list_any_gone}
 use Rattle.ct_tree_laws.proofs.Chains.{LowLe, Roles, role_at, one_node, none_linked, lows_from, link_to, not_below_itself, below_le}
 use Rattle.ct_tree_laws.proofs.Steps.{IsStep, IsStep-latches}
 use Rattle.ct_tree_laws.proofs.Keys.{KeepsKeys-latches}
 use Rattle.ct_tree_laws.proofs.Walking.{right_at_of, here_or_end, next_past, next_leaf}
-use Rattle.ct_tree_laws.proofs.Turns.{at_stage, stepped_same, not_founded}
+use Rattle.ct_tree_laws.proofs.Turns.{at_stage, stepped_same}
 use Rattle.ct_tree_laws.proofs.PutTurns.{stepped_by}
 
 -- one low bound is below another, or not
@@ -161,20 +161,20 @@ share_step walk page w free apart = IsStep-latches walk.op w (with_holds (with_s
 
 pub share_first : (walk : Walk) (above : Bool) (page : ℕ) (w now : World) → Stands walk (stage.Leaf page) w → find (bars page walk.op false) w.holds ≡ None → now ≡ with_holds (with_share page walk.op w.holds) w → Stepped walk (stage.Shared page above) w now
 share_first walk above page w now stands free is = subst (Stepped walk (stage.Shared page above) w) (sym is)
-    (stepped_by walk (stage.Leaf page) (stage.Shared page above) w (with_holds (with_share page walk.op w.holds) w) refl stands (λ here. share_step walk page w free here.apart)
+    (stepped_by walk (stage.Leaf page) (stage.Shared page above) w (with_holds (with_share page walk.op w.holds) w) stands (λ here. share_step walk page w free here.apart)
     (λ here.
     let near = here.place.1 in
     (here.place.0, (near.0, (share_step walk page w free here.apart).at here.tree true near.0 page near.1, share_passed w here.tree walk.op page above walk.target near.0 (first_passed w walk.at here.tree here.leaves walk.op above walk.target page here.is near)), has_latch-with_share_new page walk.op w)))
 
 pub share_next : (walk : Walk) (above : Bool) (page : ℕ) (w now : World) → Stands walk (stage.Share page above) w → find (bars page walk.op false) w.holds ≡ None → now ≡ with_holds (with_share page walk.op w.holds) w → Stepped walk (stage.Shared page above) w now
 share_next walk above page w now stands free is = subst (Stepped walk (stage.Shared page above) w) (sym is)
-    (stepped_by walk (stage.Share page above) (stage.Shared page above) w (with_holds (with_share page walk.op w.holds) w) refl stands (λ here. share_step walk page w free here.apart)
+    (stepped_by walk (stage.Share page above) (stage.Shared page above) w (with_holds (with_share page walk.op w.holds) w) stands (λ here. share_step walk page w free here.apart)
     (λ here.
     let reached = here.place.1 in
     (here.place.0, (reached.0, (share_step walk page w free here.apart).at here.tree true reached.0 page reached.1, share_passed w here.tree walk.op page above walk.target reached.0 reached.2), has_latch-with_share_new page walk.op w)))
 
 pub share_keys : (walk : Walk) (from : Stage) (page : ℕ) (w now : World) → Stands walk from w → find (bars page walk.op false) w.holds ≡ None → now ≡ with_holds (with_share page walk.op w.holds) w → KeepsKeys w now
-share_keys walk from page w now stands free is = subst (KeepsKeys w) (sym is) (KeepsKeys-latches walk.op w (with_holds (with_share page walk.op w.holds) w) (λ founded. (stands founded).apart) (ChangesLatches-share page walk.op w free))
+share_keys walk from page w now stands free is = subst (KeepsKeys w) (sym is) (KeepsKeys-latches walk.op w (with_holds (with_share page walk.op w.holds) w) (stands.apart) (ChangesLatches-share page walk.op w free))
 
 -- all latches are given back, and the search begins again
 abbrev pub all_freed : ℕ → World → World
@@ -183,12 +183,12 @@ all_freed op w = with_holds (filter (λ hold. not (hold.op == op)) w.holds) w
 pub all_none : (op : ℕ) (w : World) → HasNone op (all_freed op w)
 all_none op w page = list_any_gone (is_of page op) (λ hold. not (hold.op == op)) w.holds (λ hold of. ap not (eq-eqb hold.op op (is_of_parts page op hold of).1))
 
-pub begin_again : (walk : Walk) (from : Stage) (w mid now : World) → Stands walk from w → ((here : StandsIn walk from w) → IsTidy walk.op w) → mid ≡ w → now ≡ all_freed walk.op mid → Stepped walk stage.Start w now
+pub begin_again : (walk : Walk) (from : Stage) (w mid now : World) → Stands walk from w → ((here : Stands walk from w) → IsTidy walk.op w) → mid ≡ w → now ≡ all_freed walk.op mid → Stepped walk stage.Start w now
 begin_again walk from w mid now stands tidy same gives = subst (Stepped walk stage.Start w) (sym (gives ∙ ap (all_freed walk.op) same))
-    (stepped_by walk from stage.Start w (all_freed walk.op w) refl stands (λ here. IsStep-latches walk.op w (all_freed walk.op w) here.apart (ChangesLatches-free_all walk.op w)) (λ here. (tidy here, all_none walk.op w)))
+    (stepped_by walk from stage.Start w (all_freed walk.op w) stands (λ here. IsStep-latches walk.op w (all_freed walk.op w) here.apart (ChangesLatches-free_all walk.op w)) (λ here. (tidy here, all_none walk.op w)))
 
 pub again_keys : (walk : Walk) (from : Stage) (w mid now : World) → Stands walk from w → mid ≡ w → now ≡ all_freed walk.op mid → KeepsKeys w now
-again_keys walk from w mid now stands same gives = subst (KeepsKeys w) (sym (gives ∙ ap (all_freed walk.op) same)) (KeepsKeys-latches walk.op w (all_freed walk.op w) (λ founded. (stands founded).apart) (ChangesLatches-free_all walk.op w))
+again_keys walk from w mid now stands same gives = subst (KeepsKeys w) (sym (gives ∙ ap (all_freed walk.op) same)) (KeepsKeys-latches walk.op w (all_freed walk.op w) (stands.apart) (ChangesLatches-free_all walk.op w))
 
 -- the search goes on to the next leaf, keeping this one
 next_passed : (w : World) (at : Root) (t : Tree) (leaves : List ℕ) (op : ℕ) (above : Bool) (target : Target) (page : ℕ) (node : NodeValue) (high : Pair) → IsTree w at t leaves → (reached : IsReachedBySearch w t op above target page) → has_latch op page w ≡ true → page_at w page ≡ Holds node → AllPass (is_ahead above target) (pairs_in node) → node.high ≡ Some high → HasPassed w t op above target (Some high)
@@ -206,8 +206,8 @@ next_passed w at t leaves op above target page node high tree reached latched is
     (lower_or_not u.low reached.0)
 
 pub shared_right : (walk : Walk) (above : Bool) (page : ℕ) (node : NodeValue) (q : ℕ) (w now : World) → Stands walk (stage.Shared page above) w → page_at w page ≡ Holds node → now ≡ w → AllPass (is_ahead above walk.target) (pairs_in node) → place.Right q ≡ next_place node Last → Stepped walk (stage.Share q above) w now
-shared_right walk above page node q w now stands is same clear on = stepped_same walk (stage.Share q above) w now same (λ founded.
-    let here = stands founded in
+shared_right walk above page node q w now stands is same clear on = stepped_same walk (stage.Share q above) w now same (
+    let here = stands in
     let reached = here.place.1 in
     let at_page = reached.1 in
     let same_node : at_page.node ≡ node = one_node w page node at_page.node is at_page.is in
@@ -216,7 +216,7 @@ shared_right walk above page node q w now stands is same clear on = stepped_same
     let leaf : node.leaf ≡ true = sym (ap (λ (n : NodeValue). n.leaf) same_node) ∙ at_page.kind in
     by_high here node.high refl role leaf)
   where
-    by_high : (here : StandsIn walk (stage.Shared page above) w) (high : Option Pair) → node.high ≡ high → IsInRole w here.tree node → node.leaf ≡ true → StandsIn walk (stage.Share q above) w
+    by_high : (here : Stands walk (stage.Shared page above) w) (high : Option Pair) → node.high ≡ high → IsInRole w here.tree node → node.leaf ≡ true → Stands walk (stage.Share q above) w
     by_high here None told role leaf = absurd (none_right (subst (λ bound. place.Right q ≡ next_place (record node { high = bound }) Last) told on) leaf)
       where
         none_right : place.Right q ≡ next_place (record node { high = None }) Last → node.leaf ≡ true → ⊥
@@ -239,13 +239,13 @@ none_left op page w mid now same gives = ap (has_latch op page) gives ∙ list_a
 -- the leaf was cut before it was shared: it is given back, and the walk goes on
 pub shared_past : (walk : Walk) (above : Bool) (page : ℕ) (node : NodeValue) (q : ℕ) (w mid now : World) → Stands walk (stage.Shared page above) w → page_at w page ≡ Holds node → mid ≡ w → now ≡ all_freed walk.op mid → place.Right q ≡ next_place node walk.target → Stepped walk (stage.Down q) w now
 shared_past walk above page node q w mid now stands is same gives on = subst (Stepped walk (stage.Down q) w) (sym (gives ∙ ap (all_freed walk.op) same))
-    (stepped_by walk (stage.Shared page above) (stage.Down q) w (all_freed walk.op w) refl stands (λ here. IsStep-latches walk.op w (all_freed walk.op w) here.apart (ChangesLatches-free_all walk.op w))
+    (stepped_by walk (stage.Shared page above) (stage.Down q) w (all_freed walk.op w) stands (λ here. IsStep-latches walk.op w (all_freed walk.op w) here.apart (ChangesLatches-free_all walk.op w))
     (λ here.
     let near = past_near here in
     let step = IsStep-latches walk.op w (all_freed walk.op w) here.apart (ChangesLatches-free_all walk.op w) in
     (here.place.0, (near.0, near.1, step.at here.tree near.0 near.1 q near.2, near.3), all_none walk.op w)))
   where
-    past_near : (here : StandsIn walk (stage.Shared page above) w) → IsNear w here.tree walk.target q
+    past_near : (here : Stands walk (stage.Shared page above) w) → IsNear w here.tree walk.target q
     past_near here = ⊎_elim past on_here (cases_Bool (is_past node.high walk.target))
       where
         same_node : here.place.1.1.node ≡ node
@@ -270,9 +270,9 @@ shared_past walk above page node q w mid now stands is same gives on = subst (St
             (here_or_end (pairs_in node) (prefix_len (is_ahead false walk.target) (pairs_in node)))
 
 -- a leaf that a search has leads no further down
-pub shared_not_down : (walk : Walk) (above : Bool) (page : ℕ) (node : NodeValue) (q : ℕ) (w mid : World) → Stands walk (stage.Shared page above) w → page_at w page ≡ Holds node → mid ≡ w → place.Down q ≡ next_place node Last → mid.founded ≡ false
-shared_not_down walk above page node q w mid stands is same on = not_founded w mid same (λ founded.
-    let here = stands founded in
+pub shared_not_down : (walk : Walk) (above : Bool) (page : ℕ) (node : NodeValue) (q : ℕ) (w mid : World) → Stands walk (stage.Shared page above) w → page_at w page ≡ Holds node → mid ≡ w → place.Down q ≡ next_place node Last → ⊥
+shared_not_down walk above page node q w mid stands is same on = (
+    let here = stands in
     let same_node : here.place.1.1.node ≡ node = one_node w page node here.place.1.1.node is here.place.1.1.is in
     let leaf : node.leaf ≡ true = sym (ap (λ (n : NodeValue). n.leaf) same_node) ∙ here.place.1.1.kind in
     ⊎_elim
@@ -286,19 +286,19 @@ shared_not_down walk above page node q w mid stands is same on = not_founded w m
 -- a search ends
 pub end_stepped : (walk : Walk) (from : Stage) (w now : World) → Stands walk from w → now ≡ all_freed walk.op w → Stepped walk stage.Ended w now
 end_stepped walk from w now stands gives = subst (Stepped walk stage.Ended w) (sym gives)
-    (stepped_by walk from stage.Ended w (all_freed walk.op w) refl stands (λ here. IsStep-latches walk.op w (all_freed walk.op w) here.apart (ChangesLatches-free_all walk.op w)) (λ here. all_none walk.op w))
+    (stepped_by walk from stage.Ended w (all_freed walk.op w) stands (λ here. IsStep-latches walk.op w (all_freed walk.op w) here.apart (ChangesLatches-free_all walk.op w)) (λ here. all_none walk.op w))
 
-pub shared_tidy : (walk : Walk) (above : Bool) (page : ℕ) (w mid : World) → Stands walk (stage.Shared page above) w → mid ≡ w → IsTrue mid.founded → IsTidy walk.op mid
-shared_tidy walk above page w mid stands same founded = subst (IsTidy walk.op) (sym same) (stands (sym (ap (λ (v : World). v.founded) same) ∙ founded)).place.0
+pub shared_tidy : (walk : Walk) (above : Bool) (page : ℕ) (w mid : World) → Stands walk (stage.Shared page above) w → mid ≡ w → IsTidy walk.op mid
+shared_tidy walk above page w mid stands same = subst (IsTidy walk.op) (sym same) stands.place.0
 
-pub share_tidy : (walk : Walk) (above : Bool) (page : ℕ) (w mid : World) → Stands walk (stage.Share page above) w → mid ≡ w → IsTrue mid.founded → IsTidy walk.op mid
-share_tidy walk above page w mid stands same founded = subst (IsTidy walk.op) (sym same) (stands (sym (ap (λ (v : World). v.founded) same) ∙ founded)).place.0
+pub share_tidy : (walk : Walk) (above : Bool) (page : ℕ) (w mid : World) → Stands walk (stage.Share page above) w → mid ≡ w → IsTidy walk.op mid
+share_tidy walk above page w mid stands same = subst (IsTidy walk.op) (sym same) stands.place.0
 
-pub leaf_tidy : (walk : Walk) (page : ℕ) (w mid : World) → Stands walk (stage.Leaf page) w → mid ≡ w → IsTrue mid.founded → IsTidy walk.op mid
-leaf_tidy walk page w mid stands same founded = subst (IsTidy walk.op) (sym same) (stands (sym (ap (λ (v : World). v.founded) same) ∙ founded)).place.0
+pub leaf_tidy : (walk : Walk) (page : ℕ) (w mid : World) → Stands walk (stage.Leaf page) w → mid ≡ w → IsTidy walk.op mid
+leaf_tidy walk page w mid stands same = subst (IsTidy walk.op) (sym same) stands.place.0
 
 -- an operation that has ended has no latch
-pub ended_none : (walk : Walk) (to : Stage) (w now : World) → Stepped walk to w now → to ≡ stage.Ended → IsTrue w.founded → HasNone walk.op now
-ended_none walk to w now stepped ended founded =
+pub ended_none : (walk : Walk) (to : Stage) (w now : World) → Stepped walk to w now → to ≡ stage.Ended → HasNone walk.op now
+ended_none walk to w now stepped ended =
     let stands : Stands walk stage.Ended now = subst (λ at. Stands walk at now) ended stepped.stands in
-    (stands (stepped.founded ∙ founded)).place
+    stands.place

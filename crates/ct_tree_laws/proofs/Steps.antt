@@ -19,7 +19,6 @@ use Rattle.ct_tree_laws.proofs.LeftKept.{HasPassedLeft-kept}
 
 -- what a call of one operation leaves as it was, or as good as it was
 pub record IsStep (op : ℕ) (w now : World) : Type 0 where
-  pub founded : now.founded ≡ w.founded
   pub apart : IsApart now
   pub at : KeepsAt w now
   pub levels : KeepsLevels w now
@@ -35,7 +34,6 @@ pub record IsStep (op : ℕ) (w now : World) : Type 0 where
 
 pub IsStep-none : (op : ℕ) (w : World) → IsApart w → IsStep op w w
 IsStep-none op w apart = record {
-  founded = refl;
   apart = apart;
   at = λ t leaf low page is. is;
   levels = λ level page is. is;
@@ -52,7 +50,6 @@ IsStep-none op w apart = record {
 
 pub IsStep-next : (op : ℕ) (w mid now : World) → IsStep op w mid → IsStep op mid now → IsStep op w now
 IsStep-next op w mid now first second = record {
-  founded = second.founded ∙ first.founded;
   apart = second.apart;
   at = λ t leaf low page is. second.at t leaf low page (first.at t leaf low page is);
   levels = λ level page is. second.levels level page (first.levels level page is);
@@ -83,7 +80,6 @@ HasPassed-kept w now other keeps latch held t or_at target low passed page node 
 
 -- a call that leaves links and the pages of others
 pub record LeavesLinks (op : ℕ) (w now : World) : Type 0 where
-  pub founded : now.founded ≡ w.founded
   pub apart : IsApart now
   pub links : KeepsLinks w now
   pub latch : (other page : ℕ) → (other ≡ op → ⊥) → has_latch other page now ≡ has_latch other page w
@@ -95,7 +91,6 @@ pub record LeavesLinks (op : ℕ) (w now : World) : Type 0 where
 
 pub IsStep-from_links : (op : ℕ) (w now : World) → LeavesLinks op w now → IsStep op w now
 IsStep-from_links op w now leaves = record {
-  founded = leaves.founded;
   apart = leaves.apart;
   at = KeepsAt-from_links w now leaves.links;
   levels = leaves.links.levels;
@@ -111,7 +106,7 @@ IsStep-from_links op w now leaves = record {
 }
 
 -- where all pages stay, links do
-KeepsLinks-same : (w now : World) → ((page : ℕ) → page_at now page ≡ page_at w page) → ((page : ℕ) (node : NodeValue) → page_at w page ≡ Holds node → is_fresh page now ≡ is_fresh page w) → KeepsLinks w now
+pub KeepsLinks-same : (w now : World) → ((page : ℕ) → page_at now page ≡ page_at w page) → ((page : ℕ) (node : NodeValue) → page_at w page ≡ Holds node → is_fresh page now ≡ is_fresh page w) → KeepsLinks w now
 KeepsLinks-same w now same fresh = record {
   onward = λ page node reached. (node, record { is = same page ∙ reached.is; linked = fresh page node reached.is ∙ reached.linked }, IsAlike-same node);
   back = λ page node reached leaf. (node, before page node reached, IsAlike-same node);
@@ -131,7 +126,6 @@ LeavesLinks-latches op w now apart changes =
     let same : (page : ℕ) → page_at now page ≡ page_at w page = λ page. ap (λ pages. page_at (record w { pages = pages }) page) changes.pages in
     let linked : (page : ℕ) → is_fresh page now ≡ is_fresh page w = λ page. ap (λ fresh. is_fresh page (record w { fresh = fresh })) changes.fresh in
     record {
-      founded = changes.founded;
       apart = changes.apart apart;
       links = KeepsLinks-same w now same (λ page node is. linked page);
       latch = changes.latch;
@@ -148,7 +142,6 @@ IsStep-latches op w now apart changes = IsStep-from_links op w now (LeavesLinks-
 pub LeavesLinks-with_fresh : (op : ℕ) (w : World) → IsApart w → LeavesLinks op w (with_fresh op w)
 LeavesLinks-with_fresh op w apart =
     record {
-      founded = refl;
       apart = IsApart-with_fresh op w apart;
       links = KeepsLinks-same w (with_fresh op w) (page_at-with_fresh op w) (λ page node is. is_fresh-with_fresh op w page (page_within w page node is));
       latch = λ other page differ. refl;

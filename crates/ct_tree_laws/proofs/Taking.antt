@@ -76,7 +76,6 @@ has_own-with_hold_new page op w = list_any-with_hold_new (is_own_of op page) (ow
 pub record ChangesLatches (op : ℕ) (w now : World) : Type 0 where
   pub pages : now.pages ≡ w.pages
   pub fresh : now.fresh ≡ w.fresh
-  pub founded : now.founded ≡ w.founded
   pub latch : (other page : ℕ) → (other ≡ op → ⊥) → has_latch other page now ≡ has_latch other page w
   pub own : (other page : ℕ) → (other ≡ op → ⊥) → has_own other page now ≡ has_own other page w
   pub apart : IsApart w → IsApart now
@@ -131,7 +130,6 @@ pub ChangesLatches-share : (page op : ℕ) (w : World) → find (bars page op fa
 ChangesLatches-share page op w free = record {
   pages = refl;
   fresh = refl;
-  founded = refl;
   latch = λ other q differ. list_any-with_share_other (is_of q other) page op w.holds (not_of q other (shared page op) (λ same. differ (sym same))) (λ hold of. not_of q other hold (λ same. differ (sym same ∙ (is_of_parts page op hold of).1)));
   own = λ other q differ. list_any-with_share_other (is_own_of other q) page op w.holds (not_own_of q other (shared page op) (λ same. differ (sym same))) (λ hold of. not_own_of q other hold (λ same. differ (sym same ∙ (is_of_parts page op hold of).1)));
   apart = apart_taken page op false w (with_share page op w.holds) free (λ p. list_any-with_share_old p page op w.holds);
@@ -141,7 +139,6 @@ pub ChangesLatches-own : (page op : ℕ) (w : World) → find (bars page op true
 ChangesLatches-own page op w free = record {
   pages = refl;
   fresh = refl;
-  founded = refl;
   latch = λ other q differ. list_any-with_hold_other (is_of q other) (owned page op) w.holds (not_of q other (owned page op) (λ same. differ (sym same))) (λ hold of. not_of q other hold (λ same. differ (sym same ∙ (is_of_parts page op hold of).1)));
   own = λ other q differ. list_any-with_hold_other (is_own_of other q) (owned page op) w.holds (not_own_of q other (owned page op) (λ same. differ (sym same))) (λ hold of. not_own_of q other hold (λ same. differ (sym same ∙ (is_of_parts page op hold of).1)));
   apart = apart_taken page op true w (with_hold (owned page op) w.holds) free (λ p. list_any-with_hold_old p (owned page op) w.holds);
@@ -152,7 +149,6 @@ ChangesLatches-given : (op : ℕ) (keeps : Hold → Bool) (w : World) → ((hold
 ChangesLatches-given op keeps w kept = record {
   pages = refl;
   fresh = refl;
-  founded = refl;
   latch = λ other q differ. list_any-filter (is_of q other) keeps w.holds (λ hold of. kept hold (λ same. differ (sym (is_of_parts q other hold of).1 ∙ same)));
   own = λ other q differ. list_any-filter (is_own_of other q) keeps w.holds (λ hold of. kept hold (λ same. differ (sym (is_own_parts q other hold of).1 ∙ same)));
   apart = λ apart. record {

@@ -2,3 +2,4 @@ pub mod Trees
 pub mod Left
 pub mod Reached
 pub mod Stands
+pub mod Stops

@@ -1,5 +1,5 @@
 -- How an operation has come to its page, as it remembers that.
-use Rattle.std.specs.Prelude.{◌≡◌, ℕ, Bool, Option, Some, None, IsTrue}
+use Rattle.std.specs.Prelude.{◌≡◌, ℕ, Bool, Option, Some, None}
 use Rattle.ct_node.specs.declared.reach.Reach.{Reach}
 use Rattle.ct_node.specs.Worlds.{World}
 use Rattle.ct_tree_laws.specs.declared.walk.Stage.{Stage}
@@ -76,10 +76,10 @@ abbrev pub IsReachedAt : Option ℕ → Reach → World → Type 0
 IsReachedAt None reach w = Unit {0}
 IsReachedAt (Some page) reach w = (t : Tree) × IsReachedIn w t reach page
 
--- the page that an operation has come to stands as it remembers to have reached it, where operations alone made the pages
+-- the page that an operation has come to stands as it remembers to have reached it
 abbrev pub IsReached : Stage → Reach → World → Type 0
-IsReached stage reach w = IsTrue w.founded → IsReachedAt (page_of stage) reach w
+IsReached stage reach w = IsReachedAt (page_of stage) reach w
 
 -- and so does the page above from which a walk to a separator last went down
 abbrev pub IsOver : Stage → Reach → World → Type 0
-IsOver stage over w = IsTrue w.founded → IsReachedAt (over_of stage) over w
+IsOver stage over w = IsReachedAt (over_of stage) over w

@@ -1,5 +1,5 @@
 -- What holds between the turns of an operation: what it remembers still stands.
-use Rattle.std.specs.Prelude.{[], ◌≡◌, ℕ, suc, ◌<◌, ◌≤◌, ◌==◌, ◌&&◌, List, length, Bool, true, false, not, Option, Some, None, IsTrue, filter, if◌then◌else◌, ◌∷◌, ◌⊎◌, ◌+◌, nat_lt, slice_get}
+use Rattle.std.specs.Prelude.{[], ◌≡◌, ℕ, suc, ◌<◌, ◌≤◌, ◌==◌, ◌&&◌, List, length, Bool, true, false, not, Option, Some, None, filter, if◌then◌else◌, ◌∷◌, ◌⊎◌, ◌+◌, nat_lt, slice_get}
 use Rattle.std.specs.Ordering.{is_lt, is_eq}
 use Rattle.ct_definitions.specs.Pairs.{Pair, pair_cmp, with_pair}
 use Rattle.ct_node.specs.declared.root.Root.{Root}
@@ -9,7 +9,7 @@ use Rattle.ct_node.specs.declared.root.IndexRow.{IndexRow}
 use Rattle.ct_node.specs.Nodes.{Entry, NodeValue, has_pair, is_within, capacity_of}
 use Rattle.ct_node.specs.Halves.{upper_half}
 use Rattle.ct_node.specs.Roles.{first_of}
-use Rattle.ct_node.specs.Worlds.{World, DefinitionValue, Defines, Holds, Blank, page_at, IsLevel, IsBeside, IsOneAbove, has_latch, has_own, has_fresh, is_fresh, IsTidy}
+use Rattle.ct_node.specs.Worlds.{World, DefinitionValue, Defines, Holds, Blank, page_at, IsLevel, IsBeside, IsOneAbove, has_latch, has_own, has_fresh, is_fresh, IsTidy, with_lost}
 use Rattle.ct_tree_laws.specs.declared.walk.Walk.{Walk}
 use Rattle.ct_tree_laws.specs.declared.walk.Stage.{Stage}
 use Rattle.ct_tree_laws.specs.declared.walk.Stage.TheVariants.{Start, Down, Leaf, Held, Full, Split, Cut, Share, Shared, Ended, SharedLeft, Left, Post}
@@ -169,17 +169,13 @@ IsAtStage w t op target (Post separator rise) = IsSeparator w t separator × IsA
 IsAtStage w t op target Ended = HasNone op w
 
 -- an operation on a tree: the tree stands, no latches conflict, the target's key is as long as the tree's keys, and what the operation knows of its stage holds
-pub record StandsIn (walk : Walk) (stage : Stage) (w : World) : Type 0 where
+pub record Stands (walk : Walk) (stage : Stage) (w : World) : Type 0 where
   pub tree : Tree
   pub leaves : List ℕ
   pub is : IsTree w walk.at tree leaves
   pub apart : IsApart w
   pub key : (pair : Pair) → walk.target ≡ At pair → length pair.key ≡ tree.key_len
   pub place : IsAtStage w tree walk.op walk.target stage
-
--- what an operation remembers stands, where operations alone made the pages
-abbrev pub Stands : Walk → Stage → World → Type 0
-Stands walk stage w = IsTrue w.founded → StandsIn walk stage w
 
 -- what every other operation remembers still stands
 abbrev pub Keeps : ℕ → World → World → Type 0
@@ -197,9 +193,20 @@ KeepsAt w now = (t : Tree) (leaf : Bool) (low : Option Pair) (page : ℕ) → Is
 pub record Stepped (walk : Walk) (to : Stage) (w now : World) : Type 0 where
   pub stands : Stands walk to now
   pub keeps : Keeps walk.op w now
-  pub founded : now.founded ≡ w.founded
-  pub levels : IsTrue w.founded → KeepsLevels w now
-  pub at : IsTrue w.founded → KeepsAt w now
+  pub levels : KeepsLevels w now
+  pub at : KeepsAt w now
+
+-- a fact of a sound store in which these pages are lost, where something stands in it
+abbrev pub InSound : (List ℕ → Type 0) → (World → Type 0) → World → (List ℕ → Type 0) → Type 0
+InSound sound Remembered w fact = (lost : List ℕ) → sound lost → Remembered (with_lost lost w) → fact lost
+
+-- the store is sound, and a turn of an operation has ended at a stage, and has done this to the pairs
+abbrev pub Turned : (List ℕ → Type 0) → Walk → Stage → (World → World → Type 0) → World → World → List ℕ → Type 0
+Turned sound walk to Keys w now lost = sound lost × Stepped walk to (with_lost lost w) (with_lost lost now) × Keys (with_lost lost w) (with_lost lost now)
+
+-- what a turn of an operation does to a sound store, where what it remembers stands
+abbrev pub Turns : (List ℕ → Type 0) → (List ℕ → Type 0) → Walk → Stage → Stage → (World → World → Type 0) → World → World → Type 0
+Turns before after walk from to Keys w now = InSound before (Stands walk from) w (Turned after walk to Keys w now)
 
 -- whether two indexes are the same
 abbrev pub is_same_root : Root → Root → Bool
@@ -207,11 +214,11 @@ is_same_root at other = at.page == other.page && at.index == other.index
 
 -- the pairs of each index stay
 abbrev pub KeepsKeys : World → World → Type 0
-KeepsKeys w now = IsTrue w.founded → (at : Root) (keys : List Pair) → Chain w at keys → Chain now at keys
+KeepsKeys w now = (at : Root) (keys : List Pair) → Chain w at keys → Chain now at keys
 
 -- the pairs of one index change, and those of all others stay
 abbrev pub ChangesKeys : Root → (List Pair → List Pair) → World → World → Type 0
-ChangesKeys root change w now = IsTrue w.founded → (at : Root) (keys : List Pair) → Chain w at keys → Chain now at (if is_same_root at root then change keys else keys)
+ChangesKeys root change w now = (at : Root) (keys : List Pair) → Chain w at keys → Chain now at (if is_same_root at root then change keys else keys)
 
 -- pairs with one more, unless it is there
 abbrev pub added : Pair → List Pair → List Pair

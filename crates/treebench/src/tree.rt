@@ -1,15 +1,13 @@
 //! The pairs in a tree with right links over pages in memory, one operation at a time.
 
-ghost use Rattle.std.specs.Prelude.{◌+◌, ◌≤◌, IfSome};
-ghost use Rattle.ct_node.specs.MemWorlds.{world_of};
+ghost use Rattle.std.specs.Prelude.{IfSome};
 ghost use Rattle.ct_tree.specs.Answers.{IsPair};
-ghost use Rattle.treebench.specs.Begins.{IsOfLength, MayBegin};
 
 use crate::keys::key_of;
 use ct_disk::Turn;
 use ct_key::KeyBuf;
 use ct_node::{Mark, MemNodes, Pair, Root, Target};
-use ct_tree::{Put, Search, Seek, begins_in_memory};
+use ct_tree::{Put, Search, Seek};
 use std::alloc::Global;
 
 /// The one index.
@@ -36,11 +34,8 @@ pub fn put_and_get(alloc: Global, count: u32) -> Option<u64> {
 }
 
 /// A new index with so many pairs.
-fn filled(alloc: Global, count: u32) -> Option<MemNodes>
-    ensures { IfSome result (λ nodes. MayBegin count (world_of nodes)) }
-{
+fn filled(alloc: Global, count: u32) -> Option<MemNodes> {
     let mut nodes = MemNodes::new(alloc, 8).ok()?;
-    begins_in_memory();
     for place in 0..u64::from(count) {
         put_one(alloc, &mut nodes, place)?;
     }
@@ -49,18 +44,14 @@ fn filled(alloc: Global, count: u32) -> Option<MemNodes>
 
 /// The target at the pair of a place.
 fn target_of(alloc: Global, place: u64) -> Option<Target>
-    ensures pair { IfSome result IsPair }
-    ensures length { IfSome result (IsOfLength 8) }
+    ensures { IfSome result IsPair }
 {
     let key = KeyBuf::from_slice(alloc, &key_of(place)).ok()?;
     Some(Target::At(Pair { key, num: place }))
 }
 
 /// Puts the pair of a place, by the operation of that number.
-fn put_one(alloc: Global, nodes: &mut MemNodes, place: u64) -> Option<()>
-    requires { MayBegin place (world_of nodes.old) }
-    ensures { IfSome result (λ _. MayBegin (place + 1) (world_of nodes.new)) }
-{
+fn put_one(alloc: Global, nodes: &mut MemNodes, place: u64) -> Option<()> {
     let target = target_of(alloc, place)?;
     let mut put = Put::new(alloc, place, INDEX, target, Mark::NONE);
     for _turn in 0..TURNS {
@@ -75,10 +66,7 @@ fn put_one(alloc: Global, nodes: &mut MemNodes, place: u64) -> Option<()>
 }
 
 /// Finds the pair of a place, by this operation.
-fn get_one(alloc: Global, nodes: &mut MemNodes, op: u64, place: u64) -> Option<u64>
-    requires { MayBegin op (world_of nodes.old) }
-    ensures { IfSome result (λ _. MayBegin (op + 1) (world_of nodes.new)) }
-{
+fn get_one(alloc: Global, nodes: &mut MemNodes, op: u64, place: u64) -> Option<u64> {
     let target = target_of(alloc, place)?;
     let mut search = Search::new(alloc, op, INDEX, target, Seek::AtOrAbove);
     for _turn in 0..TURNS {

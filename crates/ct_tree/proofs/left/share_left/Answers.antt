@@ -8,19 +8,20 @@ use Rattle.ct_tree_laws.proofs.SearchTurns.{share_keys}
 use Rattle.ct_tree_laws.proofs.LeftTurns.{left_share_next}
 use Rattle.ct_tree.proofs.Done.{after_done, free_when_done, after_other}
 use Rattle.ct_tree.proofs.OneTurn.{waits_first}
+use Rattle.ct_node.specs.Worlds.{with_lost}
+use Rattle.ct_tree_laws.proofs.Lost.{lost_after}
 use Rattle.ct_tree.proofs.left.share_left.Goals as goal
 
-pub returns-clause-stepped : goal.returns-clause-stepped
-returns-clause-stepped g c =
-    let w = g.N.Nodes.world c.args.nodes.now in
-    left_share_next c.args.walk.now c.args.low c.args.or_at c.args.page w (g.N.Nodes.world c.share-shared.new.self) c.requires (free_when_done c.share-shared.result (find (bars c.args.page c.args.walk.now.op false) w.holds) (cc) c.share-shared.ensures.busy)
-    (after_done c.share-shared.result (λ _. with_holds (with_share c.args.page c.args.walk.now.op w.holds) w) w (g.N.Nodes.world c.share-shared.new.self) (cc) c.share-shared.ensures.world)
-
-pub returns-clause-keys : goal.returns-clause-keys
-returns-clause-keys g c =
-    let w = g.N.Nodes.world c.args.nodes.now in
-    share_keys c.args.walk.now (stage.Left c.args.low c.args.or_at (way.Leaf c.args.page)) c.args.page w (g.N.Nodes.world c.share-shared.new.self) c.requires (free_when_done c.share-shared.result (find (bars c.args.page c.args.walk.now.op false) w.holds) (cc) c.share-shared.ensures.busy)
-    (after_done c.share-shared.result (λ _. with_holds (with_share c.args.page c.args.walk.now.op w.holds) w) w (g.N.Nodes.world c.share-shared.new.self) (cc) c.share-shared.ensures.world)
+pub returns-clause-turned : goal.returns-clause-turned
+returns-clause-turned g c = λ lost sound stands. (
+  (c.share-shared.ensures.sound lost sound),
+  (let w = with_lost lost (g.N.Nodes.world c.args.nodes.now) in
+      left_share_next c.args.walk.now c.args.low c.args.or_at c.args.page w (with_lost lost (g.N.Nodes.world c.share-shared.new.self)) stands (free_when_done c.share-shared.result (find (bars c.args.page c.args.walk.now.op false) w.holds) (cc) c.share-shared.ensures.busy)
+      (after_done c.share-shared.result (λ _. with_holds (with_share c.args.page c.args.walk.now.op w.holds) w) w (with_lost lost (g.N.Nodes.world c.share-shared.new.self)) (cc) (lost_after lost c.share-shared.result (λ _. with_holds (with_share c.args.page c.args.walk.now.op (g.N.Nodes.world c.args.nodes.now).holds) (g.N.Nodes.world c.args.nodes.now)) (g.N.Nodes.world c.args.nodes.now) (g.N.Nodes.world c.share-shared.new.self) c.share-shared.ensures.world))),
+  (let w = with_lost lost (g.N.Nodes.world c.args.nodes.now) in
+      share_keys c.args.walk.now (stage.Left c.args.low c.args.or_at (way.Leaf c.args.page)) c.args.page w (with_lost lost (g.N.Nodes.world c.share-shared.new.self)) stands (free_when_done c.share-shared.result (find (bars c.args.page c.args.walk.now.op false) w.holds) (cc) c.share-shared.ensures.busy)
+      (after_done c.share-shared.result (λ _. with_holds (with_share c.args.page c.args.walk.now.op w.holds) w) w (with_lost lost (g.N.Nodes.world c.share-shared.new.self)) (cc) (lost_after lost c.share-shared.result (λ _. with_holds (with_share c.args.page c.args.walk.now.op (g.N.Nodes.world c.args.nodes.now).holds) (g.N.Nodes.world c.args.nodes.now)) (g.N.Nodes.world c.args.nodes.now) (g.N.Nodes.world c.share-shared.new.self) c.share-shared.ensures.world))),
+)
 
 pub returns-then-not-is_done-clause-rule : goal.returns-then-not-is_done-clause-rule
 returns-then-not-is_done-clause-rule g c = waits_first c.share-shared.result c.args.walk.now (g.N.Nodes.world c.args.nodes.now) (g.N.Nodes.world c.share-shared.new.self) (g.N.Nodes.left c.args.nodes.now) (g.N.Nodes.left c.share-shared.new.self) (stage.Left c.args.low c.args.or_at (way.Leaf c.args.page)) (cc) (after_other c.share-shared.result (λ _. with_holds (with_share c.args.page c.args.walk.now.op (g.N.Nodes.world c.args.nodes.now).holds) (g.N.Nodes.world c.args.nodes.now)) (g.N.Nodes.world c.args.nodes.now) (g.N.Nodes.world c.share-shared.new.self) (cc) c.share-shared.ensures.world) c.share-shared.ensures.left

@@ -10,50 +10,50 @@ use Rattle.ct_tree_laws.specs.Stands.{Stands}
 use Rattle.ct_tree_laws.proofs.PostingTurns.{way_right, way_down, way_ends, way_stepped, way_bad}
 use Rattle.ct_tree.proofs.OneTurn.{not_itself_right, not_itself_down, goes_right, goes_down}
 use Rattle.ct_tree.proofs.Counting.{no_way_back}
+use Rattle.ct_node.specs.Worlds.{with_lost}
 use Rattle.ct_tree.proofs.post.find_above.Goals as goal
 
-pub returns-in-Right-clause-stepped : goal.returns-in-Right-clause-stepped
-returns-in-Right-clause-stepped g c =
-    let w = g.N.Nodes.world c.args.nodes.now in
-    let node = c.node-node.result.now in
-    let on : place.Right c.in-Right.right ≡ next_place node (At c.args.separator.low) = sym c.in-Right.is ∙ c.place_of-place.ensures.place in
-    let to : Pair → Separator = λ low. record { low = low; child = c.args.separator.child; left = c.args.separator.left } in
-    let stands = way_right c.args.walk.now c.args.separator c.args.page c.args.above node c.in-Right.right w c.requires.stands c.node-node.ensures on in
-    way_stepped c.args.walk.now c.args.separator c.args.page c.args.above c.on_way.result w w refl
-    (c.on_way.ensures.stands c.args.walk.now w (subst (λ low. Stands c.args.walk.now (stage.Post (to low) (rise.Down c.in-Right.right c.args.above)) w) (sym c.place_of-place.ensures.pair) stands))
+pub returns-in-Right-clause-turned : goal.returns-in-Right-clause-turned
+returns-in-Right-clause-turned g c = λ lost sound stands. (
+  (sound),
+  (let w = with_lost lost (g.N.Nodes.world c.args.nodes.now) in
+      let node = c.node-node.result.now in
+      let on : place.Right c.in-Right.right ≡ next_place node (At c.args.separator.low) = sym c.in-Right.is ∙ c.place_of-place.ensures.place in
+      let to : Pair → Separator = λ low. record { low = low; child = c.args.separator.child; left = c.args.separator.left } in
+      let stands = way_right c.args.walk.now c.args.separator c.args.page c.args.above node c.in-Right.right w stands c.node-node.ensures on in
+      way_stepped c.args.walk.now c.args.separator c.args.page c.args.above c.on_way.result w w refl
+      (c.on_way.ensures.stands c.args.walk.now w (subst (λ low. Stands c.args.walk.now (stage.Post (to low) (rise.Down c.in-Right.right c.args.above)) w) (sym c.place_of-place.ensures.pair) stands))),
+  (λ at keys chain. chain),
+)
 
-pub returns-in-Down-clause-stepped : goal.returns-in-Down-clause-stepped
-returns-in-Down-clause-stepped g c =
-    let w = g.N.Nodes.world c.args.nodes.now in
-    let node = c.node-node.result.now in
-    let on : place.Down c.in-Down.below ≡ next_place node (At c.args.separator.low) = sym c.in-Down.is ∙ c.place_of-place.ensures.place in
-    let to : Pair → Separator = λ low. record { low = low; child = c.args.separator.child; left = c.args.separator.left } in
-    let stands = way_down c.args.walk.now c.args.separator c.args.page c.args.above node c.in-Down.below w c.requires.stands c.node-node.ensures on in
-    way_stepped c.args.walk.now c.args.separator c.args.page c.args.above c.on_way-in-Down.result w w refl
-    (c.on_way-in-Down.ensures.stands c.args.walk.now w (subst (λ low. Stands c.args.walk.now (stage.Post (to low) (rise.Down c.in-Down.below (Some c.args.page))) w) (sym c.place_of-place.ensures.pair) stands))
+pub returns-in-Down-clause-turned : goal.returns-in-Down-clause-turned
+returns-in-Down-clause-turned g c = λ lost sound stands. (
+  (sound),
+  (let w = with_lost lost (g.N.Nodes.world c.args.nodes.now) in
+      let node = c.node-node.result.now in
+      let on : place.Down c.in-Down.below ≡ next_place node (At c.args.separator.low) = sym c.in-Down.is ∙ c.place_of-place.ensures.place in
+      let to : Pair → Separator = λ low. record { low = low; child = c.args.separator.child; left = c.args.separator.left } in
+      let stands = way_down c.args.walk.now c.args.separator c.args.page c.args.above node c.in-Down.below w stands c.node-node.ensures on in
+      way_stepped c.args.walk.now c.args.separator c.args.page c.args.above c.on_way-in-Down.result w w refl
+      (c.on_way-in-Down.ensures.stands c.args.walk.now w (subst (λ low. Stands c.args.walk.now (stage.Post (to low) (rise.Down c.in-Down.below (Some c.args.page))) w) (sym c.place_of-place.ensures.pair) stands))),
+  (λ at keys chain. chain),
+)
 
-pub returns-in-Here-clause-stepped : goal.returns-in-Here-clause-stepped
-returns-in-Here-clause-stepped g c =
-    let w = g.N.Nodes.world c.args.nodes.now in
-    way_stepped c.args.walk.now c.args.separator c.args.page c.args.above stage.Start w w refl (way_ends c.args.walk.now c.args.separator c.args.page c.args.above w c.requires.stands)
+pub returns-in-Here-clause-turned : goal.returns-in-Here-clause-turned
+returns-in-Here-clause-turned g c = λ lost sound stands. (
+  (sound),
+  (let w = with_lost lost (g.N.Nodes.world c.args.nodes.now) in
+      way_stepped c.args.walk.now c.args.separator c.args.page c.args.above stage.Start w w refl (way_ends c.args.walk.now c.args.separator c.args.page c.args.above w stands)),
+  (λ at keys chain. chain),
+)
 
-pub returns-then-leaf-clause-stepped : goal.returns-then-leaf-clause-stepped
-returns-then-leaf-clause-stepped g c =
-    let w = g.N.Nodes.world c.args.nodes.now in
-    way_stepped c.args.walk.now c.args.separator c.args.page c.args.above stage.Start w w refl (way_ends c.args.walk.now c.args.separator c.args.page c.args.above w c.requires.stands)
-
-pub bad-fault-requires-in-End : goal.bad-fault-requires-in-End
-bad-fault-requires-in-End g c =
-    let w = g.N.Nodes.world c.args.nodes.now in
-    let node = c.node-node.result.now in
-    let on : place.End ≡ next_place node (At c.args.separator.low) = sym c.in-End.is ∙ c.place_of-place.ensures.place in
-    way_bad c.args.walk.now c.args.separator c.args.page c.args.above node w w c.requires.stands c.node-node.ensures refl on (cc)
-
-pub bad-fault-requires : goal.bad-fault-requires
-bad-fault-requires g c =
-    let w = g.N.Nodes.world c.args.nodes.now in
-    no_way_back w w c.args.walk.now.at (At c.args.separator.low) c.args.page c.node-node.result.now c.place_of-place.result.0 refl
-    (λ founded. let here = c.requires.stands founded in (here.tree, here.leaves, here.is, here.place.1.1)) c.node-node.ensures (sym c.place_of-place.ensures.place) (cc)
+pub returns-then-leaf-clause-turned : goal.returns-then-leaf-clause-turned
+returns-then-leaf-clause-turned g c = λ lost sound stands. (
+  (sound),
+  (let w = with_lost lost (g.N.Nodes.world c.args.nodes.now) in
+      way_stepped c.args.walk.now c.args.separator c.args.page c.args.above stage.Start w w refl (way_ends c.args.walk.now c.args.separator c.args.page c.args.above w stands)),
+  (λ at keys chain. chain),
+)
 
 pub returns-in-Here-clause-rule : goal.returns-in-Here-clause-rule
 returns-in-Here-clause-rule g c = inr (refl, inl refl)
@@ -72,3 +72,16 @@ returns-in-Down-clause-rule g c =
     let w = g.N.Nodes.world c.args.nodes.now in
     inr (goes_down c.args.walk.now c.args.separator c.place_of-place.result.1 c.args.page c.in-Down.below c.args.above w c.on_way-in-Down.result c.place_of-place.ensures.pair
     (not_itself_down c.args.page c.in-Down.below c.place_of-place.result.0 (cc) c.in-Down.is) (c.node-node.result.now, c.node-node.ensures, sym c.place_of-place.ensures.place ∙ c.in-Down.is) c.on_way-in-Down.ensures.goes)
+
+pub returns-in-End-clause-turned : goal.returns-in-End-clause-turned
+returns-in-End-clause-turned g c = λ lost sound stands. absurd (
+    let w = with_lost lost (g.N.Nodes.world c.args.nodes.now) in
+    let node = c.node-node.result.now in
+    let on : place.End ≡ next_place node (At c.args.separator.low) = sym c.in-End.is ∙ c.place_of-place.ensures.place in
+    way_bad c.args.walk.now c.args.separator c.args.page c.args.above node w w stands c.node-node.ensures refl on (cc))
+
+pub returns-then-leads_to-clause-turned : goal.returns-then-leads_to-clause-turned
+returns-then-leads_to-clause-turned g c = λ lost sound stands. absurd (
+    let w = with_lost lost (g.N.Nodes.world c.args.nodes.now) in
+    no_way_back w w c.args.walk.now.at (At c.args.separator.low) c.args.page c.node-node.result.now c.place_of-place.result.0 refl
+    (let here = stands in (here.tree, here.leaves, here.is, here.place.1.1)) c.node-node.ensures (sym c.place_of-place.ensures.place) (cc))

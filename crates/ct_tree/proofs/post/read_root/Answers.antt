@@ -1,13 +1,24 @@
 use Rattle.std.proofs.Common.{refl, inl, inr}
 use Rattle.ct_tree_laws.proofs.PostingTurns.{root_again, root_down}
 use Rattle.ct_tree.proofs.OneTurn.{visits}
+use Rattle.ct_node.specs.Worlds.{with_lost}
+use Rattle.std.proofs.Common.{ap}
+use Rattle.ct_tree_laws.proofs.Turns.{keys_same}
 use Rattle.ct_tree.proofs.post.read_root.Goals as goal
 
-pub returns-then-page-separator-clause-stepped : goal.returns-then-page-separator-clause-stepped
-returns-then-page-separator-clause-stepped g c = root_again c.args.walk.now c.args.separator (g.N.Nodes.world c.args.nodes.now) (g.N.Nodes.world c.root.new.self) c.requires c.in-Done.ensures.world
+pub returns-then-page-separator-clause-turned : goal.returns-then-page-separator-clause-turned
+returns-then-page-separator-clause-turned g c = λ lost sound stands. (
+  (c.in-Done.ensures.sound lost sound),
+  (root_again c.args.walk.now c.args.separator (with_lost lost (g.N.Nodes.world c.args.nodes.now)) (with_lost lost (g.N.Nodes.world c.root.new.self)) stands (ap (with_lost lost) c.in-Done.ensures.world)),
+  (keys_same (with_lost lost (g.N.Nodes.world c.args.nodes.now)) (with_lost lost (g.N.Nodes.world c.root.new.self)) (ap (with_lost lost) c.in-Done.ensures.world)),
+)
 
-pub returns-in-Done-clause-stepped : goal.returns-in-Done-clause-stepped
-returns-in-Done-clause-stepped g c = root_down c.args.walk.now c.args.separator c.in-Done.page (g.N.Nodes.world c.args.nodes.now) (g.N.Nodes.world c.root.new.self) c.requires c.in-Done.ensures.world c.in-Done.ensures.seen
+pub returns-in-Done-clause-turned : goal.returns-in-Done-clause-turned
+returns-in-Done-clause-turned g c = λ lost sound stands. (
+  (c.in-Done.ensures.sound lost sound),
+  (root_down c.args.walk.now c.args.separator c.in-Done.page (with_lost lost (g.N.Nodes.world c.args.nodes.now)) (with_lost lost (g.N.Nodes.world c.root.new.self)) stands (ap (with_lost lost) c.in-Done.ensures.world) c.in-Done.ensures.seen),
+  (keys_same (with_lost lost (g.N.Nodes.world c.args.nodes.now)) (with_lost lost (g.N.Nodes.world c.root.new.self)) (ap (with_lost lost) c.in-Done.ensures.world)),
+)
 
 pub returns-then-page-separator-clause-rule : goal.returns-then-page-separator-clause-rule
 returns-then-page-separator-clause-rule g c = inr (visits (g.N.Nodes.world c.args.nodes.now) (g.N.Nodes.world c.root.new.self) c.in-Done.ensures.world, (c.in-Done.page, c.in-Done.ensures.seen, inl refl))

@@ -3,13 +3,15 @@ use Rattle.ct_tree_laws.specs.declared.walk.Stage.TheVariants as stage
 use Rattle.ct_tree_laws.specs.declared.rise.Rise.TheVariants as rise
 use Rattle.ct_tree_laws.proofs.PostingSplits.{above_allocated, above_allocated_keys}
 use Rattle.ct_node.specs.Worlds.{World}
+use Rattle.ct_node.specs.Worlds.{with_lost}
 use Rattle.ct_tree.proofs.split_above.allocate_above.Goals as goal
 
-pub returns-in-Done-clause-stepped : goal.returns-in-Done-clause-stepped
-returns-in-Done-clause-stepped g c = above_allocated c.args.walk.now c.args.separator c.args.page c.in-Done.right (g.N.Nodes.world c.args.nodes.now) (g.N.Nodes.world c.fresh.new.self) c.requires c.in-Done.ensures.page c.in-Done.ensures.world
-
-pub returns-in-Done-clause-keys : goal.returns-in-Done-clause-keys
-returns-in-Done-clause-keys g c = above_allocated_keys c.args.walk.now (stage.Post c.args.separator (rise.Full c.args.page)) (g.N.Nodes.world c.args.nodes.now) (g.N.Nodes.world c.fresh.new.self) c.requires c.in-Done.ensures.world
+pub returns-in-Done-clause-turned : goal.returns-in-Done-clause-turned
+returns-in-Done-clause-turned g c = λ lost sound stands. (
+  (c.in-Done.ensures.sound lost sound),
+  (above_allocated c.args.walk.now c.args.separator c.args.page c.in-Done.right (with_lost lost (g.N.Nodes.world c.args.nodes.now)) (with_lost lost (g.N.Nodes.world c.fresh.new.self)) stands c.in-Done.ensures.page (ap (with_lost lost) c.in-Done.ensures.world)),
+  (above_allocated_keys c.args.walk.now (stage.Post c.args.separator (rise.Full c.args.page)) (with_lost lost (g.N.Nodes.world c.args.nodes.now)) (with_lost lost (g.N.Nodes.world c.fresh.new.self)) stands (ap (with_lost lost) c.in-Done.ensures.world)),
+)
 
 pub returns-in-Done-clause-rule : goal.returns-in-Done-clause-rule
 returns-in-Done-clause-rule g c = inr (ap (λ (v : World). v.pages) c.in-Done.ensures.world, ap (λ right. stage.Post c.args.separator (rise.Fresh c.args.page right)) c.in-Done.ensures.page)

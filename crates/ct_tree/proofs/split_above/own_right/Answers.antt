@@ -8,22 +8,31 @@ use Rattle.ct_tree_laws.proofs.PostingTurns.{owned_keys}
 use Rattle.ct_tree_laws.proofs.PostingSplits.{right_owned}
 use Rattle.ct_tree.proofs.Done.{after_done, free_when_done, after_other}
 use Rattle.ct_tree.proofs.OneTurn.{waits_first}
+use Rattle.ct_node.specs.Worlds.{with_lost}
+use Rattle.ct_tree_laws.proofs.Lost.{lost_after}
+use Rattle.ct_tree_laws.proofs.Turns.{stays, keys_same}
 use Rattle.ct_tree.proofs.split_above.own_right.Goals as goal
 
-pub returns-clause-stepped : goal.returns-clause-stepped
-returns-clause-stepped g c =
-    let w = g.N.Nodes.world c.args.nodes.now in
-    right_owned c.args.walk.now c.args.separator c.args.page c.args.right w (g.N.Nodes.world c.own-owned.new.self) c.requires (free_when_done c.own-owned.result (find (bars c.args.right c.args.walk.now.op true) w.holds) (cc) c.own-owned.ensures.busy)
-    (after_done c.own-owned.result (λ _. with_holds (with_hold (record { node = c.args.right; op = c.args.walk.now.op; own = true }) w.holds) w) w (g.N.Nodes.world c.own-owned.new.self) (cc) c.own-owned.ensures.world)
-
-pub returns-clause-keys : goal.returns-clause-keys
-returns-clause-keys g c =
-    let w = g.N.Nodes.world c.args.nodes.now in
-    owned_keys c.args.walk.now (stage.Post c.args.separator (rise.Fresh c.args.page c.args.right)) c.args.right w (g.N.Nodes.world c.own-owned.new.self) c.requires (free_when_done c.own-owned.result (find (bars c.args.right c.args.walk.now.op true) w.holds) (cc) c.own-owned.ensures.busy)
-    (after_done c.own-owned.result (λ _. with_holds (with_hold (record { node = c.args.right; op = c.args.walk.now.op; own = true }) w.holds) w) w (g.N.Nodes.world c.own-owned.new.self) (cc) c.own-owned.ensures.world)
+pub returns-clause-turned : goal.returns-clause-turned
+returns-clause-turned g c = λ lost sound stands. (
+  (c.own-owned.ensures.sound lost sound),
+  (let w = with_lost lost (g.N.Nodes.world c.args.nodes.now) in
+      right_owned c.args.walk.now c.args.separator c.args.page c.args.right w (with_lost lost (g.N.Nodes.world c.own-owned.new.self)) stands (free_when_done c.own-owned.result (find (bars c.args.right c.args.walk.now.op true) w.holds) (cc) c.own-owned.ensures.busy)
+      (after_done c.own-owned.result (λ _. with_holds (with_hold (record { node = c.args.right; op = c.args.walk.now.op; own = true }) w.holds) w) w (with_lost lost (g.N.Nodes.world c.own-owned.new.self)) (cc) (lost_after lost c.own-owned.result (λ _. with_holds (with_hold (record { node = c.args.right; op = c.args.walk.now.op; own = true }) (g.N.Nodes.world c.args.nodes.now).holds) (g.N.Nodes.world c.args.nodes.now)) (g.N.Nodes.world c.args.nodes.now) (g.N.Nodes.world c.own-owned.new.self) c.own-owned.ensures.world))),
+  (let w = with_lost lost (g.N.Nodes.world c.args.nodes.now) in
+      owned_keys c.args.walk.now (stage.Post c.args.separator (rise.Fresh c.args.page c.args.right)) c.args.right w (with_lost lost (g.N.Nodes.world c.own-owned.new.self)) stands (free_when_done c.own-owned.result (find (bars c.args.right c.args.walk.now.op true) w.holds) (cc) c.own-owned.ensures.busy)
+      (after_done c.own-owned.result (λ _. with_holds (with_hold (record { node = c.args.right; op = c.args.walk.now.op; own = true }) w.holds) w) w (with_lost lost (g.N.Nodes.world c.own-owned.new.self)) (cc) (lost_after lost c.own-owned.result (λ _. with_holds (with_hold (record { node = c.args.right; op = c.args.walk.now.op; own = true }) (g.N.Nodes.world c.args.nodes.now).holds) (g.N.Nodes.world c.args.nodes.now)) (g.N.Nodes.world c.args.nodes.now) (g.N.Nodes.world c.own-owned.new.self) c.own-owned.ensures.world))),
+)
 
 pub returns-then-not-is_done-clause-rule : goal.returns-then-not-is_done-clause-rule
 returns-then-not-is_done-clause-rule g c = waits_first c.own-owned.result c.args.walk.now (g.N.Nodes.world c.args.nodes.now) (g.N.Nodes.world c.own-owned.new.self) (g.N.Nodes.left c.args.nodes.now) (g.N.Nodes.left c.own-owned.new.self) (stage.Post c.args.separator (rise.Fresh c.args.page c.args.right)) (cc) (after_other c.own-owned.result (λ _. with_holds (with_hold (record { node = c.args.right; op = c.args.walk.now.op; own = true }) (g.N.Nodes.world c.args.nodes.now).holds) (g.N.Nodes.world c.args.nodes.now)) (g.N.Nodes.world c.args.nodes.now) (g.N.Nodes.world c.own-owned.new.self) (cc) c.own-owned.ensures.world) c.own-owned.ensures.left
 
 pub returns-clause-rule : goal.returns-clause-rule
 returns-clause-rule g c = inr ((ap (λ (v : World). v.pages) (after_done c.own-owned.result (λ _. with_holds (with_hold (record { node = c.args.right; op = c.args.walk.now.op; own = true }) (g.N.Nodes.world c.args.nodes.now).holds) (g.N.Nodes.world c.args.nodes.now)) (g.N.Nodes.world c.args.nodes.now) (g.N.Nodes.world c.own-owned.new.self) (cc) c.own-owned.ensures.world)), refl)
+
+pub returns-then-not-is_done-clause-turned : goal.returns-then-not-is_done-clause-turned
+returns-then-not-is_done-clause-turned g c = λ lost sound stands.
+    let w = with_lost lost (g.N.Nodes.world c.args.nodes.now) in
+    let now = with_lost lost (g.N.Nodes.world c.own-owned.new.self) in
+    let same = ap (with_lost lost) (after_other c.own-owned.result (λ _. with_holds (with_hold (record { node = c.args.right; op = c.args.walk.now.op; own = true }) (g.N.Nodes.world c.args.nodes.now).holds) (g.N.Nodes.world c.args.nodes.now)) (g.N.Nodes.world c.args.nodes.now) (g.N.Nodes.world c.own-owned.new.self) (cc) c.own-owned.ensures.world) in
+    (c.own-owned.ensures.sound lost sound, stays c.args.walk.now (stage.Post c.args.separator (rise.Fresh c.args.page c.args.right)) w now same stands, keys_same w now same)

@@ -1,78 +1,94 @@
-use Rattle.std.proofs.Common.{◌≡◌, true, false, sym, refl, ◌∙◌, subst}
-use Rattle.ct_node.specs.Worlds.{edited, Takes}
+use Rattle.std.proofs.Common.{◌≡◌, ℕ, true, false, cond, sym, ap, ◌∙◌, subst, refl, inl, arith}
+use Rattle.ct_node.specs.Worlds.{edited, Takes, Drops, with_lost}
+use Rattle.ct_tree.proofs.Done.{after_done, is_for_from, is_for_parts, goes_done, goes_not_done, taken_other, caused_done}
+use Rattle.ct_tree.proofs.Turning.{step_allowed, step_meant, is_in}
 use Rattle.ct_node.specs.Nodes.{pairs_in, has_pair}
 use Rattle.ct_tree_laws.specs.Stands.{ChangesKeys}
 use Rattle.ct_tree.specs.Answers.{take_at, has_at}
-use Rattle.ct_tree_laws.proofs.Turns.{not_founded}
 use Rattle.ct_tree_laws.proofs.PutTurns.{held_is_for, held_ended, absent_keys, has_keys, takes_pair, edited_tidy, take_stepped, take_keys}
-use Rattle.ct_tree.proofs.Done.{after_done, is_for_from, is_for_parts}
+use Rattle.ct_tree_laws.proofs.Lost.{lost_after_edit}
+use Rattle.ct_tree.proofs.Sound.{edit_done}
 use Rattle.ct_tree.proofs.take.take_here.Goals as goal
 
-pub bad-requires : goal.bad-requires
-bad-requires g c =
-    let w = g.N.Nodes.world c.args.nodes.now in
-    not_founded w w refl (λ founded.
-    let facts = held_is_for c.args.walk.now c.args.page c.args.node.now c.in-At.pair w c.requires.seen (cc) c.requires.within (c.requires.stands founded) in
-    let yes = is_for_from c.args.node.now c.in-At.pair facts.0 facts.1 facts.2 in
-    cc)
-
-pub returns-then-not-take-clause-stepped : goal.returns-then-not-take-clause-stepped
-returns-then-not-take-clause-stepped g c = held_ended c.args.walk.now c.args.page (g.N.Nodes.world c.args.nodes.now) (g.N.Nodes.world c.free.new.self) c.requires.stands c.free.ensures.world
-
-pub returns-then-not-take-clause-keys : goal.returns-then-not-take-clause-keys
-returns-then-not-take-clause-keys g c =
-    let w = g.N.Nodes.world c.args.nodes.now in
-    let now = g.N.Nodes.world c.free.new.self in
-    let facts = is_for_parts c.args.node.now c.in-At.pair (cc) in
-    subst (λ target. ChangesKeys c.args.walk.now.at (take_at target) w now) (sym c.in-At.is)
-    (absent_keys c.args.walk.now c.args.page c.args.node.now c.in-At.pair w now c.requires.stands c.requires.seen facts.2 (cc) c.free.ensures.world)
+pub returns-then-not-take-clause-turned : goal.returns-then-not-take-clause-turned
+returns-then-not-take-clause-turned g c = λ lost sound stands. (
+  (c.free.ensures.sound lost (sound)
+      (stands.place.0)),
+  (held_ended c.args.walk.now c.args.page (with_lost lost (g.N.Nodes.world c.args.nodes.now)) (with_lost lost (g.N.Nodes.world c.free.new.self)) stands (ap (with_lost lost) c.free.ensures.world)),
+  (let w = with_lost lost (g.N.Nodes.world c.args.nodes.now) in
+      let now = with_lost lost (g.N.Nodes.world c.free.new.self) in
+      let facts = is_for_parts c.args.node.now c.in-At.pair (cc) in
+      subst (λ target. ChangesKeys c.args.walk.now.at (take_at target) w now) (sym c.in-At.is)
+      (absent_keys c.args.walk.now c.args.page c.args.node.now c.in-At.pair w now stands c.requires.seen facts.2 (cc) (ap (with_lost lost) c.free.ensures.world))),
+)
 
 pub returns-then-not-take-clause-found : goal.returns-then-not-take-clause-found
-returns-then-not-take-clause-found g c founded keys chain =
-    let w = g.N.Nodes.world c.args.nodes.now in
+returns-then-not-take-clause-found g c = λ lost sound stands keys chain.
+    let w = with_lost lost (g.N.Nodes.world c.args.nodes.now) in
     let facts = is_for_parts c.args.node.now c.in-At.pair (cc) in
     let none : false ≡ has_pair c.in-At.pair (pairs_in c.args.node.now) = cc in
     c.requires.untaken ∙ subst (λ target. false ≡ has_at target keys) (sym c.in-At.is)
-    (none ∙ has_keys c.args.walk.now c.args.page c.args.node.now c.in-At.pair w c.requires.stands c.requires.seen facts.2 founded keys chain)
+    (none ∙ has_keys c.args.walk.now c.args.page c.args.node.now c.in-At.pair w stands c.requires.seen facts.2 keys chain)
 
-pub edit-edited-requires-clause-next : goal.edit-edited-requires-clause-next
-edit-edited-requires-clause-next g c =
-    let w = g.N.Nodes.world c.args.nodes.now in
-    let facts = is_for_parts c.args.node.now c.in-At.pair (cc) in
-    λ founded. Takes (takes_pair c.args.walk.now c.args.page c.args.node.now c.take.new.self c.in-At.pair w c.requires.seen facts.0 facts.2 c.count-count.ensures.node c.take.ensures.node (c.requires.stands founded))
-
-pub free-requires-2 : goal.free-requires-2
-free-requires-2 g c =
-    let w = g.N.Nodes.world c.args.nodes.now in
-    let mid = g.N.Nodes.world c.edit-edited.new.self in
-    edited_tidy c.args.walk.now c.args.page c.args.node.now c.take.new.self w mid c.requires.stands c.requires.seen
-    (after_done c.edit-edited.result (λ _. edited c.args.walk.now.op c.args.page c.take.new.self w) w mid (cc) c.edit-edited.ensures.world)
-
-pub returns-clause-stepped : goal.returns-clause-stepped
-returns-clause-stepped g c =
-    let w = g.N.Nodes.world c.args.nodes.now in
-    let mid = g.N.Nodes.world c.edit-edited.new.self in
-    let facts = is_for_parts c.args.node.now c.in-At.pair (cc) in
-    take_stepped c.args.walk.now c.args.page c.take.new.self w mid (g.N.Nodes.world c.free-2.new.self) c.requires.stands
-    (λ here. takes_pair c.args.walk.now c.args.page c.args.node.now c.take.new.self c.in-At.pair w c.requires.seen facts.0 facts.2 c.count-count.ensures.node c.take.ensures.node here)
-    (after_done c.edit-edited.result (λ _. edited c.args.walk.now.op c.args.page c.take.new.self w) w mid (cc) c.edit-edited.ensures.world)
-    c.free-2.ensures.world
-
-pub returns-clause-keys : goal.returns-clause-keys
-returns-clause-keys g c =
-    let w = g.N.Nodes.world c.args.nodes.now in
-    let mid = g.N.Nodes.world c.edit-edited.new.self in
-    let now = g.N.Nodes.world c.free-2.new.self in
-    let facts = is_for_parts c.args.node.now c.in-At.pair (cc) in
-    subst (λ target. ChangesKeys c.args.walk.now.at (take_at target) w now) (sym c.in-At.is)
-    (take_keys c.args.walk.now c.args.page c.args.node.now c.take.new.self c.in-At.pair w mid now c.requires.stands c.requires.seen facts.0 facts.2 c.count-count.ensures.node c.take.ensures.node
-    (after_done c.edit-edited.result (λ _. edited c.args.walk.now.op c.args.page c.take.new.self w) w mid (cc) c.edit-edited.ensures.world)
-    c.free-2.ensures.world)
+pub returns-clause-turned : goal.returns-clause-turned
+returns-clause-turned g c = λ lost sound stands. (
+  (c.free-2.ensures.sound lost (edit_done c.edit-edited.result (g.N.Nodes.allows c.args.nodes.now c.args.walk.now.op c.args.mark) c.args.walk.now.op c.args.page c.take.new.self c.args.mark (g.N.Nodes.world c.args.nodes.now) (with_lost lost (g.N.Nodes.world c.args.nodes.now)) (g.N.Nodes.sound c.edit-edited.new.self lost)
+      (let w = with_lost lost (g.N.Nodes.world c.args.nodes.now) in
+      let facts = is_for_parts c.args.node.now c.in-At.pair (cc) in
+      let there : has_pair c.in-At.pair (pairs_in c.args.node.now) ≡ true = cc in
+      Takes (takes_pair c.args.walk.now c.args.page c.args.node.now c.take.new.self c.in-At.pair w c.requires.seen facts.0 there facts.2 c.count-count.ensures.node c.take.ensures.node stands))
+      (step_meant (g.N.Nodes.allows c.args.nodes.now c.args.walk.now.op) c.args.mark c.args.walk.now.target (Drops c.args.walk.now.at) c.in-At.pair c.args.page c.take.new.self (g.N.Nodes.world c.args.nodes.now) c.requires.mark c.in-At.is (c.args.node.now, c.requires.seen, c.take.ensures.node) (is_in lost c.args.walk.now c.args.page c.args.node.now (g.N.Nodes.world c.args.nodes.now) c.requires.seen stands)) (c.edit-edited.ensures.sound lost sound))
+      (let w = with_lost lost (g.N.Nodes.world c.args.nodes.now) in
+      let mid = with_lost lost (g.N.Nodes.world c.edit-edited.new.self) in
+      edited_tidy c.args.walk.now c.args.page c.args.node.now c.take.new.self w mid stands c.requires.seen
+      (after_done c.edit-edited.result (λ _. edited c.args.walk.now.op c.args.page c.take.new.self w) w mid (cc) (lost_after_edit lost c.edit-edited.result c.args.walk.now.op c.args.page c.take.new.self (g.N.Nodes.world c.args.nodes.now) (g.N.Nodes.world c.edit-edited.new.self) (omega arith) c.edit-edited.ensures.world)))),
+  (let w = with_lost lost (g.N.Nodes.world c.args.nodes.now) in
+      let mid = with_lost lost (g.N.Nodes.world c.edit-edited.new.self) in
+      let facts = is_for_parts c.args.node.now c.in-At.pair (cc) in
+      let there : has_pair c.in-At.pair (pairs_in c.args.node.now) ≡ true = cc in
+      take_stepped c.args.walk.now c.args.page c.take.new.self w mid (with_lost lost (g.N.Nodes.world c.free-2.new.self)) stands
+      (λ here. takes_pair c.args.walk.now c.args.page c.args.node.now c.take.new.self c.in-At.pair w c.requires.seen facts.0 there facts.2 c.count-count.ensures.node c.take.ensures.node here)
+      (after_done c.edit-edited.result (λ _. edited c.args.walk.now.op c.args.page c.take.new.self w) w mid (cc) (lost_after_edit lost c.edit-edited.result c.args.walk.now.op c.args.page c.take.new.self (g.N.Nodes.world c.args.nodes.now) (g.N.Nodes.world c.edit-edited.new.self) (omega arith) c.edit-edited.ensures.world))
+      (ap (with_lost lost) c.free-2.ensures.world)),
+  (let w = with_lost lost (g.N.Nodes.world c.args.nodes.now) in
+      let mid = with_lost lost (g.N.Nodes.world c.edit-edited.new.self) in
+      let now = with_lost lost (g.N.Nodes.world c.free-2.new.self) in
+      let facts = is_for_parts c.args.node.now c.in-At.pair (cc) in
+      let there : has_pair c.in-At.pair (pairs_in c.args.node.now) ≡ true = cc in
+      subst (λ target. ChangesKeys c.args.walk.now.at (take_at target) w now) (sym c.in-At.is)
+      (take_keys c.args.walk.now c.args.page c.args.node.now c.take.new.self c.in-At.pair w mid now stands c.requires.seen facts.0 there facts.2 c.count-count.ensures.node c.take.ensures.node
+      (after_done c.edit-edited.result (λ _. edited c.args.walk.now.op c.args.page c.take.new.self w) w mid (cc) (lost_after_edit lost c.edit-edited.result c.args.walk.now.op c.args.page c.take.new.self (g.N.Nodes.world c.args.nodes.now) (g.N.Nodes.world c.edit-edited.new.self) (omega arith) c.edit-edited.ensures.world))
+      (ap (with_lost lost) c.free-2.ensures.world))),
+)
 
 pub returns-clause-found : goal.returns-clause-found
-returns-clause-found g c founded keys chain =
-    let w = g.N.Nodes.world c.args.nodes.now in
+returns-clause-found g c = λ lost sound stands keys chain.
+    let w = with_lost lost (g.N.Nodes.world c.args.nodes.now) in
     let facts = is_for_parts c.args.node.now c.in-At.pair (cc) in
     let some : true ≡ has_pair c.in-At.pair (pairs_in c.args.node.now) = cc in
     subst (λ target. true ≡ has_at target keys) (sym c.in-At.is)
-    (some ∙ has_keys c.args.walk.now c.args.page c.args.node.now c.in-At.pair w c.requires.stands c.requires.seen facts.2 founded keys chain)
+    (some ∙ has_keys c.args.walk.now c.args.page c.args.node.now c.in-At.pair w stands c.requires.seen facts.2 keys chain)
+
+pub edit-edited-requires : goal.edit-edited-requires
+edit-edited-requires g c = record { mark = step_allowed (g.N.Nodes.allows c.args.nodes.now c.args.walk.now.op) c.args.mark c.args.walk.now.target (Drops c.args.walk.now.at) c.in-At.pair c.args.page c.take.new.self (g.N.Nodes.world c.args.nodes.now) c.requires.mark c.in-At.is (c.args.node.now, c.requires.seen, c.take.ensures.node) }
+
+pub returns-clause-cause : goal.returns-clause-cause
+returns-clause-cause g c =
+    let caused = caused_done c.edit-edited.result (g.N.Nodes.faults c.args.nodes.now) (g.N.Nodes.faults c.edit-edited.new.self) (g.N.Nodes.halted c.args.nodes.now) (g.N.Nodes.halted c.edit-edited.new.self) (cc) c.edit-edited.ensures.cause in
+    let later = caused.0 in
+    (omega (arith, later, c.free-2.ensures.faults), c.free-2.ensures.halted ∙ caused.1)
+
+pub returns-then-not-is_done-clause-bears : goal.returns-then-not-is_done-clause-bears
+returns-then-not-is_done-clause-bears g c = taken_other c.edit-edited.result c.args.mark c.args.taken.now (λ mark. g.N.Nodes.goes c.args.nodes.now mark c.edit-edited.new.self) (cc) (goes_not_done c.edit-edited.result c.args.mark (λ mark. g.N.Nodes.goes c.args.nodes.now mark c.edit-edited.new.self) (cc) c.edit-edited.ensures.goes)
+
+pub returns-clause-bears : goal.returns-clause-bears
+returns-clause-bears g c = (g.met.N.Nodes.goes_then c.args.nodes.now c.edit-edited.new.self c.free-2.new.self c.args.mark (goes_done c.edit-edited.result c.args.mark (λ mark. g.N.Nodes.goes c.args.nodes.now mark c.edit-edited.new.self) (cc) c.edit-edited.ensures.goes) c.free-2.ensures.goes)
+
+pub returns-then-not-is_for-clause-turned : goal.returns-then-not-is_for-clause-turned
+returns-then-not-is_for-clause-turned g c = λ lost sound stands. absurd (
+    let w = with_lost lost (g.N.Nodes.world c.args.nodes.now) in
+    (
+    let facts = held_is_for c.args.walk.now c.args.page c.args.node.now c.in-At.pair w c.requires.seen (cc) c.requires.within stands in
+    let yes = is_for_from c.args.node.now c.in-At.pair facts.0 facts.1 facts.2 in
+    cc)
+    )
