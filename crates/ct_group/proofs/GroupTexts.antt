@@ -7,7 +7,7 @@ use Rattle.ct_group.specs.declared.group.Checkpoint.{Checkpoint}
 use Rattle.ct_group.specs.declared.group.Group.TheVariants as group
 use Rattle.ct_group.specs.declared.group.Image.{Image}
 use Rattle.ct_group.specs.declared.group.Unfinished.{Unfinished}
-use Rattle.ct_group.specs.Groups.{image_codec, unfinished_codec, checkpoint_codec, mark_codec, kind_codec, group_codec, IsImage}
+use Rattle.ct_group.specs.Groups.{image_codec, unfinished_codec, checkpoint_codec, mark_codec, kind_codec, closed_kind_codec, group_codec, closed_group_codec, IsImage}
 
 pub length-image : (i : Image) → length (image_codec.text i) ≡ 20 + length i.bytes
 unfolding image_codec
@@ -35,6 +35,13 @@ unfolding group_codec kind_codec
 image_spelled i is =
     let size : length (image_codec.text i) ≡ 4116 = omega (arith, length-image i, is.whole) in
     ap (λ n. (2 ∷ to_le_bytes w32 n) ++ image_codec.text i) size
+
+-- the text of a step that was taken back
+pub back_spelled : (i : Image) → IsImage i → closed_group_codec.text (group.Back i) ≡ (6 ∷ to_le_bytes w32 4116) ++ image_codec.text i
+unfolding closed_group_codec closed_kind_codec
+back_spelled i is =
+    let size : length (image_codec.text i) ≡ 4116 = omega (arith, length-image i, is.whole) in
+    ap (λ n. (6 ∷ to_le_bytes w32 n) ++ image_codec.text i) size
 
 -- the text of a checkpoint
 pub checkpoint_spelled : (c : Checkpoint) → group_codec.text (group.Checkpoint c) ≡ (3 ∷ to_le_bytes w32 (12 + 12 * length c.unfinished)) ++ checkpoint_codec.text c

@@ -1,5 +1,5 @@
 -- How groups are read and spelled, and which groups the fields can hold.
-use Rattle.std.specs.Prelude.{ℕ, zero, suc, ◌+◌, ◌*◌, ◌-◌, ◌^◌, ◌<◌, ◌≤◌, ◌≡◌, ◌&&◌, nat_lt, nat_le, [], length, Option, Some, None, unwrap_or, All}
+use Rattle.std.specs.Prelude.{ℕ, zero, suc, ◌+◌, ◌*◌, ◌-◌, ◌^◌, ◌<◌, ◌≤◌, ◌≡◌, ◌&&◌, ◌||◌, ◌==◌, nat_lt, nat_le, [], length, Option, Some, None, unwrap_or, All}
 use Rattle.std.specs.Int.{w16, w32, w64}
 use Rattle.ct_codec.specs.Codec.{Codec}
 use Rattle.ct_codec.specs.Formats.{number, byte, block, both, as_type, tagged, counted}
@@ -57,6 +57,7 @@ commit_of (group.Commit t) = Some t
 commit_of (group.Image i) = None
 commit_of (group.Checkpoint c) = None
 commit_of (group.Mark number) = None
+commit_of (group.Back i) = None
 
 -- the page of an image
 abbrev pub image_of : Group → Option Image
@@ -64,6 +65,7 @@ image_of (group.Commit t) = None
 image_of (group.Image i) = Some i
 image_of (group.Checkpoint c) = None
 image_of (group.Mark number) = None
+image_of (group.Back i) = None
 
 -- what a checkpoint tells
 abbrev pub checkpoint_of : Group → Option Checkpoint
@@ -71,6 +73,7 @@ checkpoint_of (group.Commit t) = None
 checkpoint_of (group.Image i) = None
 checkpoint_of (group.Checkpoint c) = Some c
 checkpoint_of (group.Mark number) = None
+checkpoint_of (group.Back i) = None
 
 -- the number of a mark
 abbrev pub mark_of : Group → Option ℕ
@@ -78,12 +81,22 @@ mark_of (group.Commit t) = None
 mark_of (group.Image i) = None
 mark_of (group.Checkpoint c) = None
 mark_of (group.Mark number) = Some number
+mark_of (group.Back i) = None
+
+-- the page that a step was taken back on
+abbrev pub back_of : Group → Option Image
+back_of (group.Commit t) = None
+back_of (group.Image i) = None
+back_of (group.Checkpoint c) = None
+back_of (group.Mark number) = None
+back_of (group.Back i) = Some i
 
 abbrev pub kind_of : Group → Kind
 kind_of (group.Commit t) = kind.Commit
 kind_of (group.Image i) = kind.Image
 kind_of (group.Checkpoint c) = kind.Checkpoint
 kind_of (group.Mark number) = kind.Mark
+kind_of (group.Back i) = kind.Back
 
 -- the number of a kind
 abbrev pub kind_number : Kind → ℕ
@@ -91,6 +104,7 @@ kind_number kind.Commit = 1
 kind_number kind.Image = 2
 kind_number kind.Checkpoint = 3
 kind_number kind.Mark = 4
+kind_number kind.Back = 6
 
 -- the kind of a number
 abbrev pub numbered : ℕ → Kind
@@ -98,11 +112,16 @@ numbered zero = kind.Commit
 numbered (suc zero) = kind.Commit
 numbered (suc (suc zero)) = kind.Image
 numbered (suc (suc (suc zero))) = kind.Checkpoint
-numbered (suc (suc (suc (suc n)))) = kind.Mark
+numbered (suc (suc (suc (suc zero)))) = kind.Mark
+numbered (suc (suc (suc (suc (suc n))))) = kind.Back
 
--- a kind: its number, 1 to 4
+-- a kind of an open log: its number, 1 to 4
 unfoldable pub kind_codec : Codec Kind
 kind_codec = as_type numbered kind_number (byte (λ n. nat_le 1 n && nat_le n 4))
+
+-- a kind of a log whose header is closed: 6, too
+unfoldable pub closed_kind_codec : Codec Kind
+closed_kind_codec = as_type numbered kind_number (byte (λ n. nat_le 1 n && (nat_le n 4 || n == 6)))
 
 -- how many bytes the body of a kind has at most; that of a checkpoint has as many as its length can say
 abbrev pub most_body : Kind → ℕ
@@ -110,6 +129,7 @@ most_body kind.Commit = 15 + 8388608
 most_body kind.Image = 4116
 most_body kind.Checkpoint = 2 ^ 32 - 1
 most_body kind.Mark = 8
+most_body kind.Back = 4116
 
 -- what stands in the body of each kind
 abbrev pub body_codec : Kind → Codec Group
@@ -117,10 +137,15 @@ body_codec kind.Commit = as_type (λ t. group.Commit t) (λ g. unwrap_or (commit
 body_codec kind.Image = as_type (λ i. group.Image i) (λ g. unwrap_or (image_of g) (record { page = 0; transaction = 0; steps = 0; bytes = [] })) image_codec
 body_codec kind.Checkpoint = as_type (λ c. group.Checkpoint c) (λ g. unwrap_or (checkpoint_of g) (record { redo = 0; unfinished = [] })) checkpoint_codec
 body_codec kind.Mark = as_type (λ n. group.Mark n) (λ g. unwrap_or (mark_of g) 0) mark_codec
+body_codec kind.Back = as_type (λ i. group.Back i) (λ g. unwrap_or (back_of g) (record { page = 0; transaction = 0; steps = 0; bytes = [] })) image_codec
 
--- a group: its kind, the length of its body, and its body
+-- a group of an open log: its kind, the length of its body, and its body
 unfoldable pub group_codec : Codec Group
 group_codec = tagged kind_codec kind_of (λ k. enclosed (up_to w32 (most_body k)) (body_codec k))
+
+-- a group of a log whose header is closed
+unfoldable pub closed_group_codec : Codec Group
+closed_group_codec = tagged closed_kind_codec kind_of (λ k. enclosed (up_to w32 (most_body k)) (body_codec k))
 
 -- the fields of a commit hold its values
 pub record FitsTransaction (t : Transaction) : Type 0 where
@@ -148,12 +173,21 @@ pub record FitsCheckpoint (c : Checkpoint) : Type 0 where
   pub unfinished : All FitsUnfinished c.unfinished
   pub short : 12 + 12 * length c.unfinished < 2 ^ 32
 
--- the fields of a group hold its values
+-- the fields of a group of an open log hold its values; a step that was taken back is none of these
 abbrev pub FitsGroup : Group → Type 0
 FitsGroup (group.Commit t) = FitsTransaction t
 FitsGroup (group.Image i) = FitsImage i
 FitsGroup (group.Checkpoint c) = FitsCheckpoint c
 FitsGroup (group.Mark number) = number ≤ 2 ^ 63
+FitsGroup (group.Back i) = ⊥
+
+-- the fields of a group of a log whose header is closed hold its values
+abbrev pub FitsClosed : Group → Type 0
+FitsClosed (group.Commit t) = FitsTransaction t
+FitsClosed (group.Image i) = FitsImage i
+FitsClosed (group.Checkpoint c) = FitsCheckpoint c
+FitsClosed (group.Mark number) = number ≤ 2 ^ 63
+FitsClosed (group.Back i) = FitsImage i
 
 -- an image that can be written: a whole page, and numbers up to their last value
 pub record IsImage (i : Image) : Type 0 where
@@ -167,9 +201,10 @@ pub record IsCheckpoint (c : Checkpoint) : Type 0 where
   pub numbers : All (λ u. u.number ≤ 2 ^ 63) c.unfinished
   pub short : 12 + 12 * length c.unfinished < 2 ^ 32
 
--- a group can be written: the lengths and counts fit their fields, and numbers are at most their last value
+-- a group of an open log can be written: the lengths and counts fit their fields, and numbers are at most their last value
 abbrev pub IsWritable : Group → Type 0
 IsWritable (group.Commit t) = FitsCommit t × (t.number ≤ 2 ^ 63)
 IsWritable (group.Image i) = IsImage i
 IsWritable (group.Checkpoint c) = IsCheckpoint c
 IsWritable (group.Mark number) = number ≤ 2 ^ 63
+IsWritable (group.Back i) = ⊥

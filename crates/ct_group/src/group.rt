@@ -15,6 +15,9 @@ pub enum Group {
     Checkpoint(Checkpoint),
     /// A place between two transactions: the number of the last one before it.
     Mark(u64),
+    /// A page, as it is again once a step of its transaction was taken back. It stands only in a log
+    /// whose header is closed, and its `steps` count those that were taken back, this one included.
+    Back(Image),
 }
 
 /// A page of 4,096 bytes, as it is from now on.
@@ -54,4 +57,5 @@ pub(crate) enum Kind {
     Image,
     Checkpoint,
     Mark,
+    Back,
 }

@@ -7,12 +7,18 @@ ghost use Rattle.ct_definitions.specs.declared.change.Transaction.{Transaction};
 ghost use Rattle.ct_group.specs.declared.group.Group.{Group};
 ghost use Rattle.ct_group.specs.declared.group.Image.{Image};
 ghost use Rattle.ct_group.specs.Commit.{commit_text};
-ghost use Rattle.ct_group.specs.Groups.{group_codec, FitsImage, FitsGroup, IsWritable};
+ghost use Rattle.ct_group.specs.Groups.{group_codec, closed_group_codec, FitsImage, FitsGroup, FitsClosed, IsWritable};
 
 /// Groups are spelled in one way each: what is read is spelled so, and what fits its fields is read again,
 /// whatever follows.
 pub fn groups_are_exact()
     ensures group { IsExact group_codec FitsGroup }
+    ensures closed { IsExact closed_group_codec FitsClosed }
+    // A group is spelled alike in both logs, and one that fits an open log fits a closed one.
+    ensures alike { (group : Group) → closed_group_codec.text group ≡ group_codec.text group }
+    ensures open_fits { (group : Group) → FitsGroup group → FitsClosed group }
+    // A step that was taken back is never read from an open log.
+    ensures never_back { (image : Image) (bytes rest : List ℕ) → IsBytes bytes → group_codec.read bytes ≡ Ok (Group.Back image, rest) → ⊥ }
     // A commit has the text that `write_commit` writes.
     ensures commit { (t : Transaction) → group_codec.text (Group.Commit t) ≡ commit_text t }
     ensures image { (image : Image) → FitsImage image → length (group_codec.text (Group.Image image)) ≡ 4121 }

@@ -9,7 +9,7 @@ ghost use Rattle.ct_change_codec.specs.ChangeFormat.{change_codec};
 ghost use Rattle.ct_group.specs.declared.group.Group.{Group};
 ghost use Rattle.ct_group.specs.declared.group.Kind.TheVariants as kind;
 ghost use Rattle.ct_group.specs.Enclosed.{up_to, read_whole, enclosed};
-ghost use Rattle.ct_group.specs.Groups.{made_codec, commit_codec, unfinished_codec, kind_codec, most_body, body_codec, group_codec, FitsGroup};
+ghost use Rattle.ct_group.specs.Groups.{made_codec, commit_codec, image_codec, unfinished_codec, kind_codec, closed_kind_codec, most_body, body_codec, group_codec, closed_group_codec, FitsGroup, FitsClosed};
 
 use crate::group::{Checkpoint, Group, Image, Kind, Unfinished};
 use ct_change_codec::change_at;
@@ -120,8 +120,8 @@ fn commit_at(alloc: Global, bytes: &[u8], room: Changes) -> Result<(Group, &[u8]
 }
 
 #[tactic(auto, unfolding(crate::specs::Groups::image_codec))]
-fn image_at(alloc: Global, bytes: &[u8]) -> Result<(Group, &[u8]), Fault>
-    ensures { Gives (λ x. (x.0, x.1.now)) result ((body_codec kind.Image).read bytes.now) }
+fn paged_at(alloc: Global, bytes: &[u8]) -> Result<(Image, &[u8]), Fault>
+    ensures { Gives (λ x. (x.0, x.1.now)) result (image_codec.read bytes.now) }
 {
     let (page, rest) = number_at(LAST_PAGE, bytes)?;
     let (transaction, rest) = number_at(LAST_NUMBER, rest)?;
@@ -133,7 +133,21 @@ fn image_at(alloc: Global, bytes: &[u8]) -> Result<(Group, &[u8]), Fault>
         steps,
         bytes: Items::from_slice(alloc, field)?,
     };
+    Ok((image, rest))
+}
+
+fn image_at(alloc: Global, bytes: &[u8]) -> Result<(Group, &[u8]), Fault>
+    ensures { Gives (λ x. (x.0, x.1.now)) result ((body_codec kind.Image).read bytes.now) }
+{
+    let (image, rest) = paged_at(alloc, bytes)?;
     Ok((Group::Image(image), rest))
+}
+
+fn back_at(alloc: Global, bytes: &[u8]) -> Result<(Group, &[u8]), Fault>
+    ensures { Gives (λ x. (x.0, x.1.now)) result ((body_codec kind.Back).read bytes.now) }
+{
+    let (image, rest) = paged_at(alloc, bytes)?;
+    Ok((Group::Back(image), rest))
 }
 
 #[tactic(auto, unfolding(crate::specs::Groups::unfinished_codec))]
@@ -202,13 +216,29 @@ fn kind_at(bytes: &[u8]) -> Result<(Kind, &[u8]), Fault>
     }
 }
 
+#[tactic(auto, unfolding(crate::specs::Groups::closed_kind_codec))]
+fn closed_kind_at(bytes: &[u8]) -> Result<(Kind, &[u8]), Fault>
+    ensures reads { Gives (λ x. (x.0, x.1.now)) result (closed_kind_codec.read bytes.now) }
+    ensures memory { TakesNoMemory result }
+{
+    match bytes {
+        [] => Err(Fault::Bad(0)),
+        [1, behind @ ..] => Ok((Kind::Commit, behind)),
+        [2, behind @ ..] => Ok((Kind::Image, behind)),
+        [3, behind @ ..] => Ok((Kind::Checkpoint, behind)),
+        [4, behind @ ..] => Ok((Kind::Mark, behind)),
+        [6, behind @ ..] => Ok((Kind::Back, behind)),
+        [_, ..] => Err(Fault::Bad(bytes.len())),
+    }
+}
+
 /// How many bytes the body of a kind has at most.
 fn most_body(kind: Kind) -> u32
     ensures { result ≡ most_body kind }
 {
     match kind {
         Kind::Commit => 15 + 8_388_608,
-        Kind::Image => 20 + 4096,
+        Kind::Image | Kind::Back => 20 + 4096,
         Kind::Checkpoint => u32::MAX,
         Kind::Mark => 8,
     }
@@ -222,6 +252,7 @@ fn body_at(alloc: Global, kind: Kind, bytes: &[u8], room: Changes) -> Result<(Gr
         Kind::Image => image_at(alloc, bytes),
         Kind::Checkpoint => checkpoint_at(alloc, bytes),
         Kind::Mark => mark_at(bytes),
+        Kind::Back => back_at(alloc, bytes),
     }
 }
 
@@ -262,7 +293,30 @@ fn group_at(alloc: Global, bytes: &[u8], room: Changes) -> Result<(Group, &[u8])
     enclosed_at(alloc, kind, rest, room)
 }
 
-/// The group at the front of some bytes, and how many of them it takes.
+#[tactic(auto, unfolding(crate::specs::Groups::closed_group_codec))]
+fn closed_group_at(alloc: Global, bytes: &[u8], room: Changes) -> Result<(Group, &[u8]), Fault>
+    ensures { Gives (λ x. (x.0, x.1.now)) result (closed_group_codec.read bytes.now) }
+{
+    let (kind, rest) = closed_kind_at(bytes)?;
+    enclosed_at(alloc, kind, rest, room)
+}
+
+/// The group at the front of some bytes of a log whose header is closed: `read_group`, and steps that
+/// were taken back, too.
+pub fn read_closed_group(
+    alloc: Global,
+    bytes: &[u8],
+    room: Changes,
+) -> Result<(Group, usize), ReadFault>
+    ensures found { IfOk result (BeginsWith closed_group_codec FitsClosed bytes.now) }
+    ensures only { (group : Group) (rest : List ℕ) → FitsClosed group → bytes.now ≡ closed_group_codec.text group ++ rest
+        → IsAnswer (group, length (closed_group_codec.text group)) result }
+    ensures place { ReadsFront closed_group_codec bytes.now result }
+{
+    front_of(bytes, closed_group_at(alloc, bytes, room))
+}
+
+/// The group at the front of some bytes of an open log, and how many of them it takes.
 /// The changes of a commit stand in the memory of `room`, whose own items are dropped whatever is read.
 pub fn read_group(alloc: Global, bytes: &[u8], room: Changes) -> Result<(Group, usize), ReadFault>
     // What is read is spelled so, byte for byte, and fits its fields.

@@ -80,6 +80,34 @@ fn groups_come_back(rt: HostRuntime) -> Result<(), Fail> {
     Ok(())
 }
 
+#[test]
+fn steps_taken_back_stand_in_closed_logs(rt: HostRuntime) -> Result<(), Fail> {
+    groups_are_exact();
+    let alloc = rt.alloc();
+    let mut bytes = image();
+    bytes[0] = 6;
+    assert_eq!(rt; bad_place(alloc, &bytes), Some(0));
+    let (group, len) = read_closed_group(alloc, &bytes, Changes::new(alloc))?;
+    assert_eq!(rt; len, bytes.len());
+    let Group::Back(back) = group else {
+        return Err(Fail::new("no step that was taken back"));
+    };
+    let mut again = Vec::new(alloc);
+    if back.bytes.as_slice().len() == 4096 && back.page < 1 << 50 && back.transaction <= 1 << 63 {
+        write_back(&back, &mut again)?;
+    }
+    assert_eq!(rt; again.as_slice(), bytes.as_slice());
+    Ok(())
+}
+
+#[test]
+fn lent_pages_are_written(rt: HostRuntime) -> Result<(), Fail> {
+    let mut bytes = Vec::new(rt.alloc());
+    write_image(3, 2, 1, &[0; 4096], &mut bytes)?;
+    assert_eq!(rt; bytes.as_slice(), image().as_slice());
+    Ok(())
+}
+
 // where the first field is that does not fit
 fn bad_place(alloc: Global, bytes: &[u8]) -> Option<usize> {
     match read_group(alloc, bytes, Changes::new(alloc)) {

@@ -6,7 +6,7 @@ ghost use Rattle.std.specs.Int.{w32, to_le_bytes};
 ghost use Rattle.ct_codec.specs.Answers.{KeepsFront};
 ghost use Rattle.ct_change_codec.specs.ChangeFormat.{FitsChange, LengthsFit};
 ghost use Rattle.ct_group.specs.Commit.{made_number, changes_text, commit_body, commit_text, FitsCommit};
-ghost use Rattle.ct_group.specs.Groups.{image_codec, unfinished_codec, group_codec, FitsTransaction, FitsImage, FitsCheckpoint, FitsGroup, IsImage, IsCheckpoint, IsWritable};
+ghost use Rattle.ct_group.specs.Groups.{image_codec, unfinished_codec, group_codec, closed_group_codec, FitsTransaction, FitsImage, FitsCheckpoint, FitsGroup, FitsClosed, IsImage, IsCheckpoint, IsWritable};
 
 use crate::group::{Checkpoint, Group, Image, Unfinished};
 use ct_change_codec::push_change;
@@ -104,15 +104,94 @@ fn push_head(kind: u8, len: u32, into: &mut Vec<u8>) -> Result<(), NoMemory>
     write_u32(len, into)
 }
 
-fn push_image_body(image: &Image, into: &mut Vec<u8>) -> Result<(), NoMemory>
-    ensures ok { OnOk result (into.new.items ≡ into.old.items ++ image_codec.text image.now) }
-    ensures fits { OnOk result (image.now.steps < 2 ^ 32) }
+fn push_image_body(
+    page: u64,
+    transaction: u64,
+    steps: u32,
+    bytes: &[u8],
+    into: &mut Vec<u8>,
+) -> Result<(), NoMemory>
+    ensures ok { OnOk result (into.new.items ≡ into.old.items ++ image_codec.text (record { page = page; transaction = transaction; steps = steps; bytes = bytes.now })) }
+    ensures fits { OnOk result (steps < 2 ^ 32) }
     ensures err { OnErr result (KeepsFront into.old.items into.new.items) }
 {
-    write_u64(image.page, into)?;
-    write_u64(image.transaction, into)?;
-    write_u32(image.steps, into)?;
-    write_bytes(image.bytes.as_slice(), into)
+    write_u64(page, into)?;
+    write_u64(transaction, into)?;
+    write_u32(steps, into)?;
+    write_bytes(bytes, into)
+}
+
+fn push_lent(
+    page: u64,
+    transaction: u64,
+    steps: u32,
+    bytes: &[u8],
+    into: &mut Vec<u8>,
+) -> Result<(), NoMemory>
+    requires page { page < 2 ^ 50 }
+    requires transaction { transaction ≤ 2 ^ 63 }
+    requires whole { length bytes.now ≡ 4096 }
+    ensures ok { OnOk result (into.new.items ≡ into.old.items ++ group_codec.text (Group.Image (record { page = page; transaction = transaction; steps = steps; bytes = bytes.now }))) }
+    ensures fits { OnOk result (FitsImage (record { page = page; transaction = transaction; steps = steps; bytes = bytes.now })) }
+    ensures err { OnErr result (KeepsFront into.old.items into.new.items) }
+{
+    push_head(2, IMAGE_BODY, into)?;
+    push_image_body(page, transaction, steps, bytes, into)
+}
+
+/// Writes an image of a page that is lent, as `write_group` writes one that is owned: the page is
+/// copied once. Where memory runs out the bytes are left as they are.
+pub fn write_image(
+    page: u64,
+    transaction: u64,
+    steps: u32,
+    bytes: &[u8; 4096],
+    into: &mut Vec<u8>,
+) -> Result<(), NoMemory>
+    requires page { page < 2 ^ 50 }
+    requires transaction { transaction ≤ 2 ^ 63 }
+    ensures ok { OnOk result (into.new.items ≡ into.old.items ++ group_codec.text (Group.Image (record { page = page; transaction = transaction; steps = steps; bytes = bytes.now }))) }
+    ensures fits { OnOk result (FitsImage (record { page = page; transaction = transaction; steps = steps; bytes = bytes.now })) }
+    ensures err { OnErr result (into.new.items ≡ into.old.items) }
+{
+    let begin = into.len();
+    let written = push_lent(page, transaction, steps, bytes, into);
+    if written.is_err() {
+        into.truncate(begin);
+    }
+    written
+}
+
+fn push_back(back: &Image, into: &mut Vec<u8>) -> Result<(), NoMemory>
+    requires { IsImage back.now }
+    ensures ok { OnOk result (into.new.items ≡ into.old.items ++ closed_group_codec.text (Group.Back back.now)) }
+    ensures fits { OnOk result (FitsImage back.now) }
+    ensures err { OnErr result (KeepsFront into.old.items into.new.items) }
+{
+    push_head(6, IMAGE_BODY, into)?;
+    push_image_body(
+        back.page,
+        back.transaction,
+        back.steps,
+        back.bytes.as_slice(),
+        into,
+    )
+}
+
+/// Writes a step that was taken back, for a log whose header is closed, or leaves the bytes as they
+/// are.
+pub fn write_back(back: &Image, into: &mut Vec<u8>) -> Result<(), NoMemory>
+    requires { IsImage back.now }
+    ensures ok { OnOk result (into.new.items ≡ into.old.items ++ closed_group_codec.text (Group.Back back.now)) }
+    ensures fits { OnOk result (FitsClosed (Group.Back back.now)) }
+    ensures err { OnErr result (into.new.items ≡ into.old.items) }
+{
+    let begin = into.len();
+    let written = push_back(back, into);
+    if written.is_err() {
+        into.truncate(begin);
+    }
+    written
 }
 
 fn push_image(image: &Image, into: &mut Vec<u8>) -> Result<(), NoMemory>
@@ -121,8 +200,13 @@ fn push_image(image: &Image, into: &mut Vec<u8>) -> Result<(), NoMemory>
     ensures fits { OnOk result (FitsImage image.now) }
     ensures err { OnErr result (KeepsFront into.old.items into.new.items) }
 {
-    push_head(2, IMAGE_BODY, into)?;
-    push_image_body(image, into)
+    push_lent(
+        image.page,
+        image.transaction,
+        image.steps,
+        image.bytes.as_slice(),
+        into,
+    )
 }
 
 #[tactic(auto, unfolding(crate::specs::Groups::unfinished_codec))]
@@ -180,6 +264,7 @@ fn push_group(group: &Group, into: &mut Vec<u8>) -> Result<(), NoMemory>
         Group::Image(image) => push_image(image, into),
         Group::Checkpoint(checkpoint) => push_checkpoint(checkpoint, into),
         Group::Mark(number) => push_mark(*number, into),
+        Group::Back(back) => push_back(back, into),
     }
 }
 

@@ -7,7 +7,7 @@ use Rattle.ct_definitions.specs.declared.change.Transaction.{Transaction}
 use Rattle.ct_definitions.specs.Changes.{State}
 use Rattle.ct_definitions.specs.Histories.{allows_all}
 use Rattle.ct_group.specs.declared.group.Group.{Group}
-use Rattle.ct_group.specs.declared.group.Group.TheVariants.{Commit, Image, Checkpoint, Mark}
+use Rattle.ct_group.specs.declared.group.Group.TheVariants.{Commit, Image, Checkpoint, Mark, Back}
 use Rattle.ct_group.specs.Commit.{commit_text}
 use Rattle.ct_group.specs.Groups.{FitsTransaction, FitsGroup, group_codec, commit_of}
 use Rattle.ct_group.proofs.GroupLaws.{commit_spelled, one_group}
@@ -19,6 +19,7 @@ commit_is (Commit u) t is = let same : u ≡ t = cc in ap (λ (x : Transaction).
 commit_is (Image i) t is = absurd cc
 commit_is (Checkpoint c) t is = absurd cc
 commit_is (Mark n) t is = absurd cc
+commit_is (Back i) t is = absurd cc
 
 -- bytes begin with one commit at most
 pub same_commit : (t u : Transaction) (x y : List ℕ) → FitsTransaction t → FitsTransaction u → commit_text t ++ x ≡ commit_text u ++ y → (t ≡ u) × (x ≡ y)

@@ -141,7 +141,7 @@ fn commit_of(group: Group) -> Option<Transaction>
 {
     match group {
         Group::Commit(transaction) => Some(transaction),
-        Group::Image(_) | Group::Checkpoint(_) | Group::Mark(_) => None,
+        Group::Image(_) | Group::Checkpoint(_) | Group::Mark(_) | Group::Back(_) => None,
     }
 }
 

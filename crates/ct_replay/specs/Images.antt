@@ -12,6 +12,7 @@ images_in position (group.Commit transaction) = []
 images_in position (group.Image image) = an_image image.page image.bytes position ∷ []
 images_in position (group.Checkpoint checkpoint) = []
 images_in position (group.Mark number) = []
+images_in position (group.Back image) = []
 
 -- the images of groups, the first of which has this position, each with the position of its group
 abbrev pub images_from : ℕ → List Group → List PageImage
@@ -32,3 +33,4 @@ IsPlaceable (group.Commit transaction) = Unit {0}
 IsPlaceable (group.Image image) = (image.page < 2 ^ 50) × (length image.bytes ≡ 4096)
 IsPlaceable (group.Checkpoint checkpoint) = Unit {0}
 IsPlaceable (group.Mark number) = Unit {0}
+IsPlaceable (group.Back image) = Unit {0}
