@@ -1,0 +1,5 @@
+pub mod Format
+pub mod Walks
+pub mod Judging
+pub mod Windows
+pub mod Writing
