@@ -1,5 +1,5 @@
 -- What one record more does to a verdict.
-use Rattle.std.proofs.Common.{◌≡◌, ℕ, zero, suc, ◌+◌, ◌-◌, ◌≤◌, ◌<◌, Bool, cond, ltb, List, [], ◌++◌, length, take, drop, refl, sym, ap, subst, ◌∙◌, arith, length-drop}
+use Rattle.std.proofs.Common.{◌≡◌, ℕ, zero, suc, ◌+◌, ◌-◌, ◌≤◌, ◌<◌, Bool, true, false, cond, ltb, List, [], ◌++◌, length, take, drop, refl, sym, ap, subst, ◌∙◌, arith, length-drop}
 use Rattle.std.specs.Prelude.{Result, Err}
 use Rattle.std.proofs.lemmas.List.{drop-drop, drop-take, take-take, take-append-drop}
 use Rattle.std.proofs.lemmas.Bool.{lt-ltb}
@@ -11,7 +11,7 @@ use Rattle.ct_dump_stream.specs.declared.stream.Kind.{Kind}
 use Rattle.ct_dump_stream.specs.declared.stream.Kind.TheVariants.{Open, Page, Groups, End}
 use Rattle.ct_dump_stream.specs.declared.stream.StreamFault.TheVariants.{Bad}
 use Rattle.ct_dump_stream.specs.declared.walk.Walk.{Walk}
-use Rattle.ct_dump_stream.specs.Format.{Next, nothing, found, next_in}
+use Rattle.ct_dump_stream.specs.Format.{Next, nothing, found, is_end, next_in}
 use Rattle.ct_dump_stream.specs.Walks.{begun, walk_with}
 use Rattle.ct_dump_stream.specs.Judging.{Verdict, summed, ended, judged_next, judged_from}
 use Rattle.ct_dump_stream.specs.Windows.{IsWalked}
@@ -37,6 +37,18 @@ IsMore Open = Unit {0}
 IsMore Page = Unit {0}
 IsMore Groups = Unit {0}
 IsMore End = ⊥
+
+pub more_of : (kind : Kind) → is_end kind ≡ false → IsMore kind
+more_of Open more = tt
+more_of Page more = tt
+more_of Groups more = tt
+more_of End more = absurd cc
+
+pub end_of : (kind : Kind) → is_end kind ≡ true → kind ≡ End
+end_of Open is = absurd cc
+end_of Page is = absurd cc
+end_of Groups is = absurd cc
+end_of End is = refl
 
 next_kind : (kind : Kind) (head : Head) (content : List ℕ) (w : Walk) (rest body : List ℕ) (go_on : Walk → List ℕ → Verdict) → IsMore kind
     → judged_next (found kind body) head content w rest go_on ≡ go_on (walk_with head.begin w kind body) (drop (5 + length body) rest)

@@ -58,6 +58,13 @@ follows Groups Groups = true
 follows Groups End = true
 follows last kind = false
 
+-- whether a kind is that of the digest's record
+abbrev pub is_end : Kind → Bool
+is_end Open = false
+is_end Page = false
+is_end Groups = false
+is_end End = true
+
 -- whether the body of a kind may have this length
 abbrev pub fits_len : Kind → ℕ → Bool
 fits_len Page len = len == 4104

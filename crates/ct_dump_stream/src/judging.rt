@@ -5,7 +5,7 @@ ghost use Rattle.std.specs.Prelude.{◌≡◌, ◌≤◌, ◌<◌, ◌+◌, ◌-
 ghost use Rattle.ct_disk.specs.Disk.{Rose};
 ghost use Rattle.sha2.specs.Hashers.{Holds256};
 ghost use Rattle.sha2.specs.Sha256.{sha256};
-ghost use Rattle.ct_dump_stream.specs.Format.{follows, fits_len, next_in};
+ghost use Rattle.ct_dump_stream.specs.Format.{follows, fits_len, is_end, next_in};
 ghost use Rattle.ct_dump_stream.specs.Judging.{stream_bytes, judged, judged_from, summed, Tells};
 ghost use Rattle.ct_dump_stream.specs.Walks.{begun};
 ghost use Rattle.ct_dump_stream.specs.Windows.{OnlyRead, IsWindow, Covers, TellsNext, HasNext, TellsHead};
@@ -106,6 +106,16 @@ fn judge_head<D: Disk>(
     }
 }
 
+/// Whether a kind is that of the digest's record.
+fn is_end(kind: Kind) -> bool
+    ensures { result ≡ is_end kind }
+{
+    match kind {
+        Kind::Open | Kind::Page | Kind::Groups => false,
+        Kind::End => true,
+    }
+}
+
 /// The digest that the record at a place has.
 fn digest_in(body: &[u8]) -> [u8; 32]
     requires { length body.now ≡ 32 }
@@ -162,7 +172,7 @@ fn judge_records<D: Disk>(
         };
         let record = window.seen(walk.place, FRONT + len);
         let body = record.split_at(FRONT).1;
-        if kind == Kind::End {
+        if is_end(kind) {
             let behind = walk.place + LAST;
             if behind < window.end {
                 return Err(StreamFault::Bad { at: behind });
