@@ -1,3 +1,4 @@
 pub mod Looks
 pub mod Nexts
 pub mod Judgements
+pub mod GroupsLeft
