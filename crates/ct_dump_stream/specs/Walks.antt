@@ -10,13 +10,17 @@ use Rattle.ct_dump_stream.specs.declared.stream.Kind.{Kind}
 use Rattle.ct_dump_stream.specs.declared.stream.Kind.TheVariants.{Open, Page, Groups, End}
 use Rattle.ct_dump_stream.specs.declared.walk.Walk.{Walk}
 
+-- the number of a group that is a commit, with four bytes behind it
+abbrev pub commit_number : Group → ℕ → Option ℕ
+commit_number (group.Commit t) left = if left == 4 then Some t.number else None
+commit_number (group.Image i) left = None
+commit_number (group.Checkpoint c) left = None
+commit_number (group.Mark number) left = None
+commit_number (group.Back i) left = None
+
 -- the number of the commit that an open record has, with four bytes behind it
 abbrev pub number_in : Result (Group × List ℕ) ℕ → Option ℕ
-number_in (Ok (group.Commit t, rest)) = if length rest == 4 then Some t.number else None
-number_in (Ok (group.Image i, rest)) = None
-number_in (Ok (group.Checkpoint c, rest)) = None
-number_in (Ok (group.Mark number, rest)) = None
-number_in (Ok (group.Back i, rest)) = None
+number_in (Ok found) = commit_number found.0 (length found.1)
 number_in (Err left) = None
 
 abbrev pub opened_in : List ℕ → Option ℕ

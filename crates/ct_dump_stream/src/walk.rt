@@ -4,7 +4,7 @@
 ghost use Rattle.std.specs.Prelude.{◌≡◌, ◌≤◌, ◌<◌, ◌+◌, ◌^◌, ℕ, length, IfOk, IsTrue};
 ghost use Rattle.ct_dump_stream.specs.declared.stream.Kind.TheVariants as kind;
 ghost use Rattle.ct_dump_stream.specs.Format.{fits_len};
-ghost use Rattle.ct_dump_stream.specs.Walks.{opened_in, risen, are_groups, blamed, with_open, walk_with};
+ghost use Rattle.ct_dump_stream.specs.Walks.{commit_number, opened_in, risen, are_groups, blamed, with_open, walk_with};
 
 use crate::read::page_number;
 use crate::stream::Kind;
@@ -47,19 +47,22 @@ fn blamed(bad: Option<u64>, good: bool, place: u64) -> Option<u64>
     }
 }
 
+/// The number of a group that is a commit, with four bytes behind it.
+fn commit_number(group: &Group, left: usize) -> Option<u64>
+    ensures { result ≡ commit_number group.now left }
+{
+    match group {
+        Group::Commit(transaction) if left == 4 => Some(transaction.number),
+        _ => None,
+    }
+}
+
 /// The number of the commit that a record has, with four bytes behind it.
 fn opened_in(alloc: Global, body: &[u8]) -> Result<Option<u64>, NoMemory>
     ensures { IfOk result (λ number. number ≡ opened_in body.now) }
 {
     match read_group(alloc, body, Changes::new(alloc)) {
-        Ok((Group::Commit(transaction), len)) => {
-            if body.len() - len == 4 {
-                Ok(Some(transaction.number))
-            } else {
-                Ok(None)
-            }
-        }
-        Ok((_, _)) => Ok(None),
+        Ok((group, len)) => Ok(commit_number(&group, body.len() - len)),
         Err(ReadFault::Bad { .. }) => Ok(None),
         Err(ReadFault::Memory) => Err(NoMemory),
     }
