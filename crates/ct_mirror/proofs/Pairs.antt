@@ -72,14 +72,14 @@ pair_goes first second step old new a b = record {
 }
 
 -- a relation at equal values
-moved : (change : List ℕ → List ℕ → Type 0) (x y x' y' : List ℕ) → x' ≡ x → y' ≡ y → change x y → change x' y'
+pub moved : (change : List ℕ → List ℕ → Type 0) (x y x' y' : List ℕ) → x' ≡ x → y' ≡ y → change x y → change x' y'
 moved change x y x' y' same same' holds =
     let P : List ℕ → Type 0 = λ l. change l y' in
     let Q : List ℕ → Type 0 = λ l. change x l in
     subst P (sym same) (subst Q (sym same') holds)
 
 -- a pair of which both sides are in use stands
-stands_both : {A B : Type 0} (first : Telling A) (second : Telling B) (pair : Pair A B) → pair.mode ≡ Both → InStep first second pair → Stands first second pair
+pub stands_both : {A B : Type 0} (first : Telling A) (second : Telling B) (pair : Pair A B) → pair.mode ≡ Both → InStep first second pair → Stands first second pair
 stands_both first second pair mode step = record {
   both = λ is. step;
   first_alone = λ pending is. cc;
@@ -87,7 +87,7 @@ stands_both first second pair mode step = record {
 }
 
 -- a pair of which the first side is in use stands
-stands_first : {A B : Type 0} (first : Telling A) (second : Telling B) (pair : Pair A B) (pending : Bool) → pair.mode ≡ First pending → Alone first second pair.first_cell pair.epoch pending pair.a pair.b → Stands first second pair
+pub stands_first : {A B : Type 0} (first : Telling A) (second : Telling B) (pair : Pair A B) (pending : Bool) → pair.mode ≡ First pending → Alone first second pair.first_cell pair.epoch pending pair.a pair.b → Stands first second pair
 stands_first first second pair pending mode alone = record {
   both = λ is. cc;
   first_alone = λ other is. let same : pending ≡ other = cc in let P : Bool → Type 0 = λ p. Alone first second pair.first_cell pair.epoch p pair.a pair.b in subst P same alone;
@@ -95,7 +95,7 @@ stands_first first second pair pending mode alone = record {
 }
 
 -- a pair of which the second side is in use stands
-stands_second : {A B : Type 0} (first : Telling A) (second : Telling B) (pair : Pair A B) (pending : Bool) → pair.mode ≡ Second pending → Alone second first pair.second_cell pair.epoch pending pair.b pair.a → Stands first second pair
+pub stands_second : {A B : Type 0} (first : Telling A) (second : Telling B) (pair : Pair A B) (pending : Bool) → pair.mode ≡ Second pending → Alone second first pair.second_cell pair.epoch pending pair.b pair.a → Stands first second pair
 stands_second first second pair pending mode alone = record {
   both = λ is. cc;
   first_alone = λ other is. cc;
@@ -109,40 +109,40 @@ pub record SameEpoch {A B : Type 0} (old new : Pair A B) : Type 0 where
   pub second_cell : new.second_cell ≡ old.second_cell
 
 -- the marks of a side after a step behind its cells
-marks : {D : Type 0} (disk : Telling D) (step : List ℕ → List ℕ → Type 0) (cell cell' : Cell) (epoch epoch' : ℕ) (old new : D) → cell' ≡ cell → epoch' ≡ epoch → AllImages (IsMarked cell epoch) (disk.may_leave old) → GoesOn disk.may_leave disk.left_since (Behind step) old new → AllImages (IsMarked cell' epoch') (disk.may_leave new)
+pub marks : {D : Type 0} (disk : Telling D) (step : List ℕ → List ℕ → Type 0) (cell cell' : Cell) (epoch epoch' : ℕ) (old new : D) → cell' ≡ cell → epoch' ≡ epoch → AllImages (IsMarked cell epoch) (disk.may_leave old) → GoesOn disk.may_leave disk.left_since (Behind step) old new → AllImages (IsMarked cell' epoch') (disk.may_leave new)
 marks disk step cell cell' epoch epoch' old new same same' all goes =
     let P : Cell → Type 0 = λ x. AllImages (IsMarked x epoch') (disk.may_leave new) in
     let Q : ℕ → Type 0 = λ e. AllImages (IsMarked cell e) (disk.may_leave new) in
     subst P (sym same) (subst Q (sym same') (AllImages-step disk.may_leave disk.left_since (Behind step) old new (IsMarked cell epoch) (IsMarked cell epoch) all (λ d c. marked_behind step cell epoch d c) goes))
 
 -- the bound on the ranks of a side in use after a step behind its cells
-bounds : {D : Type 0} (disk : Telling D) (step : List ℕ → List ℕ → Type 0) (cell : Cell) (epoch epoch' : ℕ) (old new : D) → epoch' ≡ epoch → AllImages (IsMarked cell epoch) (disk.may_leave old) → AllImages (λ side. rank side ≤ epoch + 1) (disk.may_leave old) → GoesOn disk.may_leave disk.left_since (Behind step) old new → AllImages (λ side. rank side ≤ epoch' + 1) (disk.may_leave new)
+pub bounds : {D : Type 0} (disk : Telling D) (step : List ℕ → List ℕ → Type 0) (cell : Cell) (epoch epoch' : ℕ) (old new : D) → epoch' ≡ epoch → AllImages (IsMarked cell epoch) (disk.may_leave old) → AllImages (λ side. rank side ≤ epoch + 1) (disk.may_leave old) → GoesOn disk.may_leave disk.left_since (Behind step) old new → AllImages (λ side. rank side ≤ epoch' + 1) (disk.may_leave new)
 bounds disk step cell epoch epoch' old new same all under goes c left =
     let one = goes.now c left in
     omega (arith, under one.0 one.1, same, ap told_by (one.2.head (all one.0 one.1).long))
 
 -- how a side in use carries the images of its pair through a step behind its cells
-carries_marked : {D : Type 0} (disk : Telling D) (images : List ℕ → Type 0) (step : List ℕ → List ℕ → Type 0) (least least' : ℕ) (cell : Cell) (epoch : ℕ) (old new : D)
+pub carries_marked : {D : Type 0} (disk : Telling D) (images : List ℕ → Type 0) (step : List ℕ → List ℕ → Type 0) (least least' : ℕ) (cell : Cell) (epoch : ℕ) (old new : D)
     → AllImages (IsMarked cell epoch) (disk.may_leave old) → least ≤ least' → ((d : List ℕ) → disk.may_leave old d → epoch + 1 ≤ rank d → images (data_of d))
     → GoesOn disk.may_leave disk.left_since (Behind step) old new → Carries disk images step least least' old new
 carries_marked disk images step least least' cell epoch old new all up shown goes =
     carries_used disk images step (Behind step) least least' (IsMarked cell epoch) old new all up (λ d left marked. shown d left (marked_rank cell epoch d marked)) (λ d c marked behind. behind.moves marked.long) goes
 
 -- an image of the first side that counts is one of the pair's
-first_shown : {A B : Type 0} (first : Telling A) (second : Telling B) (pair : Pair A B) (least : ℕ) → least_first pair.mode pair.epoch ≤ least → (d : List ℕ) → first.may_leave pair.a d → least ≤ rank d → Leaves first second pair (data_of d)
+pub first_shown : {A B : Type 0} (first : Telling A) (second : Telling B) (pair : Pair A B) (least : ℕ) → least_first pair.mode pair.epoch ≤ least → (d : List ℕ) → first.may_leave pair.a d → least ≤ rank d → Leaves first second pair (data_of d)
 first_shown first second pair least up d left high = inl (d, left, omega arith, refl)
 
 -- an image of the second side that counts is one of the pair's
-second_shown : {A B : Type 0} (first : Telling A) (second : Telling B) (pair : Pair A B) (least : ℕ) → least_second pair.mode pair.epoch ≤ least → (d : List ℕ) → second.may_leave pair.b d → least ≤ rank d → Leaves first second pair (data_of d)
+pub second_shown : {A B : Type 0} (first : Telling A) (second : Telling B) (pair : Pair A B) (least : ℕ) → least_second pair.mode pair.epoch ≤ least → (d : List ℕ) → second.may_leave pair.b d → least ≤ rank d → Leaves first second pair (data_of d)
 second_shown first second pair least up d left high = inr (d, left, omega arith, refl)
 
-least_first_is : (mode mode' : Mode) (epoch : ℕ) → mode ≡ mode' → least_first mode epoch ≡ least_first mode' epoch
+pub least_first_is : (mode mode' : Mode) (epoch : ℕ) → mode ≡ mode' → least_first mode epoch ≡ least_first mode' epoch
 least_first_is mode mode' epoch same = ap (λ m. least_first m epoch) same
 
-least_second_is : (mode mode' : Mode) (epoch : ℕ) → mode ≡ mode' → least_second mode epoch ≡ least_second mode' epoch
+pub least_second_is : (mode mode' : Mode) (epoch : ℕ) → mode ≡ mode' → least_second mode epoch ≡ least_second mode' epoch
 least_second_is mode mode' epoch same = ap (λ m. least_second m epoch) same
 
-content_as : {A B : Type 0} (first : Telling A) (second : Telling B) (pair : Pair A B) (mode : Mode) → pair.mode ≡ mode → content_of first second pair ≡ data_of (read_of mode (first.content pair.a) (second.content pair.b))
+pub content_as : {A B : Type 0} (first : Telling A) (second : Telling B) (pair : Pair A B) (mode : Mode) → pair.mode ≡ mode → content_of first second pair ≡ data_of (read_of mode (first.content pair.a) (second.content pair.b))
 content_as first second pair mode same = ap (λ m. data_of (read_of m (first.content pair.a) (second.content pair.b))) same
 
 -- both sides were called, of a pair that used both

@@ -5,6 +5,8 @@ mod cell;
 mod mark;
 mod pair;
 mod pair_calls;
+mod pair_reads;
+mod raise;
 mod side;
 
 pub use ct_items::NoMemory;
