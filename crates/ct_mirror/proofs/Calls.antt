@@ -60,3 +60,13 @@ pub by_cut_none : (result : Result Unit DiskError) (len : ℕ) (x : List ℕ) �
 by_cut_none (Ok _) len x = Bent-same len x
 by_cut_none (Err Fault) len x = Bent-same len x
 by_cut_none (Err Memory) len x = refl
+
+-- a write that was not made has changed nothing
+pub written_none : (error : DiskError) (at : ℕ) (put x : List ℕ) → Written (Err error) at put x x
+written_none Fault at put x = Torn-same at (length put) x
+written_none Memory at put x = refl
+
+-- a cut that was not made has changed nothing
+pub resized_none : (error : DiskError) (len : ℕ) (x : List ℕ) → Resized (Err error) len x x
+resized_none Fault len x = Bent-same len x
+resized_none Memory len x = refl

@@ -1,4 +1,5 @@
 pub mod Calls
+pub mod Laws
 pub mod Marks
 pub mod Pairs
 pub mod Raises

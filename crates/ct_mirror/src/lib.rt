@@ -7,6 +7,7 @@ mod pair;
 mod pair_calls;
 mod pair_reads;
 mod raise;
+mod raised;
 mod side;
 
 pub use ct_items::NoMemory;
